@@ -1,0 +1,3 @@
+-- The definitions of areas.
+-- Relies on nothing.
+pub mod Memory

@@ -1,0 +1,183 @@
+// The words of nodes and levels: total reads and writes by number, references, and cells.
+// Relies on words for reads and writes, on settings for sizes.
+ghost use mathlib.Core.Path.{_≡_};
+ghost use Prim.Native.Nat.{_+_, _*_, _≤_};
+ghost use lib.Dec.{eqb};
+ghost use lib.ListN.{set};
+ghost use Rattle.areas.specs.Memory.{memory, levelRef, nodeRef, isNode, named, pixelAt, nextAt, previousAt, depthAt, entryAt, cellAt, setCell, entryCell, fillNode, fillLevel, levelTaken, nodeTaken, refTaken};
+use settings::Settings;
+use words::at;
+use words::fill_words;
+use words::lt;
+use words::octal_digit;
+use words::put;
+
+// A cell: an entry of a level (level, entry), or the next word of a node.
+pub enum Cell {
+    Entry(u32, u32),
+    Next(u32),
+}
+
+// The place of word k of level g.
+fn level_place(g: u32, k: usize) -> usize
+    requires { ⌜ k ≤ 4294967306 ⌝ }
+    ensures { λ r. ⌜ r ≡ 10 * g + k ⌝ }
+{
+    (Settings::LEVEL_WORDS as usize) * (g as usize) + k
+}
+
+// The place of word k of node i.
+fn node_place(i: u32, k: usize) -> usize
+    requires { ⌜ k ≤ 1 ⌝ }
+    ensures { λ r. ⌜ r ≡ 2 * i + k ⌝ }
+{
+    (Settings::NODE_WORDS as usize) * (i as usize) + k
+}
+
+pub fn is_node(r: u32) -> bool
+    ensures { λ b. ⌜ b ≡ isNode r ⌝ }
+{
+    r % 2 == 1
+}
+
+pub fn named(r: u32) -> u32
+    ensures { λ n. ⌜ n ≡ named r ⌝ }
+{
+    r / 2
+}
+
+// A word is the reference to level g.
+pub fn refers_to(r: u32, g: u32) -> bool
+    ensures { λ b. ⌜ b ≡ eqb r (levelRef g) ⌝ }
+{
+    r as usize == 2 * (g as usize)
+}
+
+pub fn level_ref(g: u32) -> u32
+    requires { ⌜ g ≤ 28689 ⌝ }
+    ensures { λ r. ⌜ r ≡ levelRef g ⌝ }
+{
+    2 * g
+}
+
+pub fn node_ref(i: u32) -> u32
+    requires { ⌜ i ≤ 4096 ⌝ }
+    ensures { λ r. ⌜ r ≡ nodeRef i ⌝ }
+{
+    2 * i + 1
+}
+
+pub fn level_taken(s: Settings, g: u32) -> bool
+    ensures { λ b. ⌜ b ≡ levelTaken s g ⌝ }
+{
+    lt(g, s.levels_taken)
+}
+
+pub fn node_taken(s: Settings, i: u32) -> bool
+    ensures { λ b. ⌜ b ≡ nodeTaken s i ⌝ }
+{
+    lt(i, s.nodes_taken)
+}
+
+// A reference names a taken node or level.
+pub fn ref_taken(s: Settings, r: u32) -> bool
+    ensures { λ b. ⌜ b ≡ refTaken s r ⌝ }
+{
+    if is_node(r) {
+        node_taken(s, named(r))
+    } else {
+        level_taken(s, named(r))
+    }
+}
+
+pub fn pixel_at(nodes: &[u32], i: u32) -> u32
+    ensures { λ r. ⌜ r ≡ pixelAt (now (nodes .entry)) i ⌝ }
+{
+    at(nodes, node_place(i, 0))
+}
+
+pub fn next_at(nodes: &[u32], i: u32) -> u32
+    ensures { λ r. ⌜ r ≡ nextAt (now (nodes .entry)) i ⌝ }
+{
+    at(nodes, node_place(i, 1))
+}
+
+pub fn previous_at(levels: &[u32], g: u32) -> u32
+    ensures { λ r. ⌜ r ≡ previousAt 3 (now (levels .entry)) g ⌝ }
+{
+    at(levels, level_place(g, 0))
+}
+
+pub fn depth_at(levels: &[u32], g: u32) -> u32
+    ensures { λ r. ⌜ r ≡ depthAt 3 (now (levels .entry)) g ⌝ }
+{
+    at(levels, level_place(g, 1))
+}
+
+pub fn entry_at(levels: &[u32], g: u32, e: u32) -> u32
+    ensures { λ r. ⌜ r ≡ entryAt 3 (now (levels .entry)) g e ⌝ }
+{
+    at(levels, level_place(g, 2 + (e as usize)))
+}
+
+// The entry that a pixel number picks in level g.
+pub fn entry_cell(levels: &[u32], g: u32, pixel: u32) -> Cell
+    ensures { λ r. ⌜ r ≡ entryCell 3 (now (levels .entry)) g pixel ⌝ }
+{
+    let d = octal_digit(pixel, depth_at(levels, g));
+    Cell::Entry(g, d)
+}
+
+// The word in a cell.
+pub fn cell_at(x: Cell, nodes: &[u32], levels: &[u32]) -> u32
+    ensures { λ r. ⌜ r ≡ cellAt 3 (memory (now (nodes .entry)) (now (levels .entry))) x ⌝ }
+{
+    match x {
+        Cell::Entry(g, e) => entry_at(levels, g, e),
+        Cell::Next(i) => next_at(nodes, i),
+    }
+}
+
+// A word is written to a cell.
+pub fn set_cell(x: Cell, v: u32, nodes: &mut [u32], levels: &mut [u32])
+    ensures { λ r. ⌜ memory (now (nodes .exit)) (now (levels .exit)) ≡ setCell 3 (memory (now (nodes .entry)) (now (levels .entry))) x v ⌝ }
+{
+    match x {
+        Cell::Entry(g, e) => {
+            put(levels, level_place(g, 2 + (e as usize)), v);
+        }
+        Cell::Next(i) => {
+            put(nodes, node_place(i, 1), v);
+        }
+    }
+}
+
+// Node i gets its two words.
+pub fn fill_node(nodes: &mut [u32], i: u32, pixel: u32, next: u32)
+    ensures { λ r. ⌜ now (nodes .exit) ≡ fillNode (now (nodes .entry)) i pixel next ⌝ }
+{
+    put(nodes, node_place(i, 0), pixel);
+    put(nodes, node_place(i, 1), next);
+}
+
+// Level g gets its previous level and depth.
+fn fill_head(levels: &mut [u32], g: u32, previous: u32, depth: u32)
+    ensures { λ r. ⌜ now (levels .exit) ≡ set (set (now (levels .entry)) (10 * g) previous) (10 * g + 1) depth ⌝ }
+{
+    put(levels, level_place(g, 0), previous);
+    put(levels, level_place(g, 1), depth);
+}
+
+// Level g gets its previous level and depth, and entries that refer to itself.
+pub fn fill_level(levels: &mut [u32], g: u32, previous: u32, depth: u32)
+    requires { ⌜ g ≤ 28689 ⌝ }
+    ensures { λ r. ⌜ now (levels .exit) ≡ fillLevel 3 (now (levels .entry)) g previous depth ⌝ }
+{
+    fill_head(levels, g, previous, depth);
+    fill_words(
+        levels,
+        level_place(g, 2),
+        Settings::ENTRIES as usize,
+        level_ref(g),
+    );
+}

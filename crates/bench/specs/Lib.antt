@@ -1,0 +1,4 @@
+-- Document 01's bench cases.
+-- Relies on rules.
+pub mod Table
+pub mod Everything

@@ -1,0 +1,122 @@
+-- Document 01's "Bench cases (P: in the proved table)": each row opens a table over words that are all 7, and says what each operation must answer.
+-- Relies on the operations' definitions at width 3.
+use Prim.Native.Nat.{ℕ, zero, suc, _*_}
+use mathlib.Core.Bool.{Bool, true, false}
+use mathlib.Core.List.{List, [], _∷_, _++_}
+use lib.Dec.{eqb}
+use lib.ListN.{replicate}
+use Rattle.words.specs.Choice.{pick, both, every}
+use Rattle.settings.specs.Sizes.{nodeWords, levelWords, workerWords, levelCount}
+use Rattle.settings.specs.declared.Settings.{Settings}
+use Rattle.areas.specs.Memory.{Areas, areas}
+use Rattle.record.specs.declared.Answer.{Answer}
+use Rattle.record.specs.declared.Answer.the-variants.{Nothing, New, Found, Full, Open}
+use Rattle.record.specs.declared.Reply.{Reply}
+use Rattle.record.specs.Kinds.{answerNo, answerNode}
+use Rattle.rules.specs.Operations.{Result, opening}
+use Rattle.rules.specs.Lists.{State, state, after}
+use Rattle.rules.specs.Calls.{Event, starts, turns, happens}
+
+-- A line of a row.
+--   start i r c n: a start of worker i for row r and column c has number n
+--   runs i k n a: worker i has k turns; before the last one the call goes on, and the last one has number n and answer a
+--   taken n g: nodes taken and levels taken
+pub data Line : Type 0 where
+  start : ℕ → ℕ → ℕ → ℕ → Line
+  runs : ℕ → ℕ → ℕ → Answer → Line
+  taken : ℕ → ℕ → Line
+
+-- workers, chain limit, nodes, the number that the opening has, and the lines after it
+pub record Row : Type 0 where
+  pub workers : ℕ
+  pub limit : ℕ
+  pub nodes : ℕ
+  pub number : ℕ
+  pub lines : List Line
+
+abbrev pub row : ℕ → ℕ → ℕ → ℕ → List Line → Row
+row k l n q ls = record { workers = k; limit = l; nodes = n; number = q; lines = ls }
+
+-- (0,0) is new 0 after 3 turns
+abbrev pub first : List Line
+first = start 0 0 0 0 ∷ runs 0 3 0 (New 0) ∷ []
+
+-- the printed race
+abbrev pub race : List Line
+race =
+    start 0 0 0 0
+    ∷ start 1 0 0 0
+    ∷ runs 0 1 0 Open
+    ∷ runs 1 1 0 Open
+    ∷ runs 0 1 0 Open
+    ∷ runs 1 1 0 Open
+    ∷ runs 0 1 0 (New 0)
+    ∷ runs 1 2 0 (Found 0)
+    ∷ []
+
+unfoldable pub table : List Row
+table =
+    -- P1 Fresh, limit 4: (0,0) is new 0 after 3 turns.
+    row 1 4 8 0 (start 0 0 0 0 ∷ runs 0 3 0 (New 0) ∷ taken 1 1 ∷ [])
+    -- P2 Again: found 0 after 2.
+    ∷ row 1 4 8 0 (first ++ start 0 0 0 0 ∷ runs 0 2 0 (Found 0) ∷ taken 1 1 ∷ [])
+    -- P3 Then (0,1): new 1 after 5.
+    ∷ row 1 4 8 0 (first ++ start 0 0 1 0 ∷ runs 0 5 0 (New 1) ∷ taken 2 1 ∷ [])
+    -- P4 The race printed above: 2 nodes taken.
+    ∷ row 2 4 8 0 (race ++ taken 2 1 ∷ [])
+    -- P5 Worker 1 then places (512,0): new 1, its spare.
+    ∷ row 2 4 8 0 (race ++ start 1 512 0 0 ∷ runs 1 3 0 (New 1) ∷ taken 2 1 ∷ [])
+    -- P6 One worker, limit 1, nodes 2: (0,0), then (0,1) is new 1 after 80 turns, levels taken 8.
+    ∷ row 1 1 2 0 (first ++ start 0 0 1 0 ∷ runs 0 80 0 (New 1) ∷ taken 2 8 ∷ [])
+    -- P7 Nodes 1, limit 4, (0,0) placed: (1,1) is full on turn 4;
+    ∷ row 1 4 1 0 (first ++ start 0 1 1 0 ∷ runs 0 4 9 Full ∷ taken 1 1 ∷ [])
+    -- P8 (512,0) on turn 2;
+    ∷ row 1 4 1 0 (first ++ start 0 512 0 0 ∷ runs 0 2 9 Full ∷ taken 1 1 ∷ [])
+    -- P9 (0,0) found 0.
+    ∷ row 1 4 1 0 (first ++ start 0 0 0 0 ∷ runs 0 2 0 (Found 0) ∷ [])
+    -- P10 Row 4,095 passes, 4,096 gives 5.
+    ∷ row 1 4 1 0 (start 0 4096 0 5 ∷ start 0 4095 0 0 ∷ runs 0 3 0 (New 0) ∷ [])
+    -- P11 Limit 8 passes, 0 and 9 give 1.
+    ∷ row 1 8 1 0 (first ++ [])
+    ∷ row 1 0 1 1 []
+    ∷ row 1 9 1 1 []
+    -- P12 Worker 15 of 16 passes, 16 gives 4.
+    ∷ row 16 8 1 0 (start 16 0 0 4 ∷ start 15 0 0 0 ∷ runs 15 3 0 (New 0) ∷ [])
+    ∷ []
+
+-- the settings and areas that a row's opening is given: every word, also nodes taken and levels taken, is 7
+abbrev pub given : Row → Settings
+given r = record { workers = r .workers; limit = r .limit; nodes = r .nodes; «nodes_taken» = 7; «levels_taken» = 7 }
+
+unfoldable pub lent : Row → Areas
+lent r =
+    areas (replicate (nodeWords * r .nodes) 7)
+    (replicate (levelWords 3 * levelCount 3 (given r)) 7)
+    (replicate (workerWords 3 * r .workers) 7)
+
+-- a reply has the number and the answer
+unfoldable pub gives : Reply → ℕ → Answer → Bool
+gives r n a = both (eqb (r .number) n) (both (eqb (answerNo (r .answer)) (answerNo a)) (eqb (answerNode (r .answer)) (answerNode a)))
+
+-- k turns of worker i: each but the last goes on
+unfoldable pub runsOf : ℕ → ℕ → ℕ → Answer → State → Bool × State
+runsOf i zero n a x = (false, x)
+runsOf i (suc zero) n a x = (gives (happens 3 (turns i) x .reply) n a, after (happens 3 (turns i) x))
+runsOf i (suc (suc k)) n a x = more (runsOf i (suc k) n a (after (happens 3 (turns i) x)))
+  where
+    more : Bool × State → Bool × State
+    more (b, y) = (both (gives (happens 3 (turns i) x .reply) 0 Open) b, y)
+
+unfoldable pub lineOf : Line → State → Bool × State
+lineOf (start i r c n) x = (eqb (happens 3 (starts i r c) x .reply .number) n, after (happens 3 (starts i r c) x))
+lineOf (runs i k n a) x = runsOf i k n a x
+lineOf (taken n g) x = (both (eqb (x .settings .«nodes_taken») n) (eqb (x .settings .«levels_taken») g), x)
+
+unfoldable pub linesPass : List Line → State → Bool
+linesPass [] x = true
+linesPass (l ∷ ls) x = let r = lineOf l x in both (r .0) (linesPass ls (r .1))
+
+unfoldable pub passes : Row → Bool
+passes r =
+    let o = opening 3 (given r) (lent r) in
+    both (eqb (o .reply .number) (r .number)) (linesPass (r .lines) (after o))

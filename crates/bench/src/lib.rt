@@ -1,0 +1,1 @@
+// No code: document 01's bench cases P1 to P12 as a table over the definitions (specs/), and its proof (proofs/).

@@ -1,0 +1,43 @@
+-- The ways through the functions that read and write a head, a Move or a count, each from what the called functions give.
+-- Relies on nothing.
+use mathlib.Core.Path.{_≡_}
+use mathlib.Core.List.{List, [], _∷_}
+use Prim.Native.Nat.{ℕ, _+_}
+use lib.ListN.{getD}
+use lib.Seq.{sets}
+use Rattle.words.specs.Blocks.{cells}
+use Rattle.settings.specs.Sizes.{maxLimit}
+use Rattle.record.specs.declared.Head.{Head}
+use Rattle.record.specs.declared.Move.{Move}
+use Rattle.record.specs.Layout.{workerPlace, movePlace, headFrom, headList, headAt, movesAt, moveFrom, moveAt, storeHead, moveTo}
+
+module _ (w : ℕ) (l : List ℕ) (i : ℕ) where
+  pub moves-at-way : {x p : ℕ} → x ≡ getD l (p + 9) 0 → p ≡ workerPlace w i → x ≡ movesAt w l i
+  unfolding movesAt
+  moves-at-way a b = simp (a, b)
+
+  pub move-count-way : (j : ℕ) {x p : ℕ} → x ≡ getD l (p + 2) 0 → p ≡ movePlace w i j → x ≡ moveAt w l i j .count
+  unfolding moveAt moveFrom
+  move-count-way j a b = simp (a, b)
+
+  pub head-load-way : {h : Head} {b : List ℕ} {p : ℕ} → h ≡ headFrom b → b ≡ cells l p 9 → p ≡ workerPlace w i → h ≡ headAt w l i
+  unfolding headAt
+  head-load-way a b c = simp (a, b, c)
+
+  pub head-store-way :
+      (h : Head) (m : ℕ) {l′ b : List ℕ} {p : ℕ} → l′ ≡ sets l p b → p ≡ workerPlace w i → b ≡ headList h m → l′ ≡ storeHead w h m i l
+  unfolding storeHead
+  head-store-way h m a b c = simp (a, b, c)
+
+  pub move-load-way :
+      (j : ℕ) {x y z p : ℕ} {n : List ℕ}
+      → z ≡ getD l (p + 2) 0 → y ≡ getD l (p + 1) 0 → x ≡ getD l p 0 → n ≡ cells l (p + 3) maxLimit → p ≡ movePlace w i j
+      → record { home = x; child = y; count = z; nodes = n } ≡ moveAt w l i j
+  unfolding moveAt moveFrom
+  move-load-way j a b c d e = simp (a, b, c, d, e)
+
+  pub move-store-way :
+      (m : Move) (j : ℕ) {l₁ l₂ : List ℕ} {p : ℕ}
+      → l₂ ≡ sets l₁ (p + 3) (m .nodes) → l₁ ≡ sets l p (m .home ∷ m .child ∷ m .count ∷ []) → p ≡ movePlace w i j → l₂ ≡ moveTo m (movePlace w i j) l
+  unfolding moveTo
+  move-store-way m j a b c = simp (a, b, c)

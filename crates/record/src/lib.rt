@@ -1,0 +1,394 @@
+// A worker's record: kinds of turn and answers with their numbers, and the head and the Moves in the worker's words.
+// Relies on words for blocks, on settings for sizes and the chain limit.
+ghost use mathlib.Core.Path.{_≡_};
+ghost use Prim.Native.Nat.{_+_, _*_, _≤_};
+ghost use mathlib.Core.Bool.{false};
+ghost use lib.Dec.{leb, eqb};
+ghost use Rattle.words.specs.Choice.{pick, both, every};
+ghost use Rattle.settings.specs.Sizes.{within};
+ghost use Rattle.record.specs.Kinds.{kindOf, kindNo, answerOf};
+ghost use Rattle.record.specs.Layout.{workerPlace, movePlace, headFrom, headList, headAt, movesAt, moveAt, firstMoves, load, storeHead, moveTo, newMove};
+ghost use Rattle.record.specs.Fits.{onChain, hasNode, callFits, innerFits, outerFits, movesFit, movingFits, fits};
+use settings::Settings;
+use words::and;
+use words::at;
+use words::copy_in;
+use words::copy_out;
+use words::eq;
+use words::le;
+
+// The kinds of turn. Idle: no call is open. Unknown: a number that is no kind.
+pub enum Kind {
+    Idle,
+    Look,
+    Take,
+    Put,
+    Read,
+    Tail,
+    TakeTail,
+    Append,
+    Level,
+    Close,
+    Follow,
+    ChainHead,
+    ChainNext,
+    SetNext,
+    SetLook,
+    SetPut,
+    SetRead,
+    SetTail,
+    SetAppend,
+    SetLevel,
+    SetClose,
+    SetFollow,
+    MoveEnd,
+    Unknown,
+}
+
+// What an operation answers. Nothing: document 01's "none". Open: a call is open or goes on.
+pub enum Answer {
+    Nothing,
+    New(u32),
+    Found(u32),
+    Full,
+    Open,
+}
+
+// What an operation gives back. The number is 0 where it was carried out, else that of the refusal.
+pub struct Reply {
+    pub number: u32,
+    pub answer: Answer,
+    pub turns: u32,
+    pub settings: Settings,
+}
+
+// The numbers of a call. A held node or level is its number + 1, or 0: in hand in Put, Append, Close and SetClose, else spare.
+pub struct Head {
+    pub kind: Kind,
+    pub pixel: u32,
+    pub level: u32,
+    pub node: u32,
+    pub count: u32,
+    pub held_node: u32,
+    pub held_level: u32,
+    pub answer: u32,
+    pub answer_node: u32,
+}
+
+// A Move of the chain of an entry of `home` to `child`: the nodes remembered are the first `count`.
+pub struct Move {
+    pub home: u32,
+    pub child: u32,
+    pub count: u32,
+    pub nodes: [u32; 8],
+}
+
+pub fn kind_no(k: Kind) -> u32
+    ensures { λ r. ⌜ r ≡ kindNo k ⌝ }
+{
+    match k {
+        Kind::Idle => 0,
+        Kind::Look => 1,
+        Kind::Take => 2,
+        Kind::Put => 3,
+        Kind::Read => 4,
+        Kind::Tail => 5,
+        Kind::TakeTail => 6,
+        Kind::Append => 7,
+        Kind::Level => 8,
+        Kind::Close => 9,
+        Kind::Follow => 10,
+        Kind::ChainHead => 11,
+        Kind::ChainNext => 12,
+        Kind::SetNext => 13,
+        Kind::SetLook => 14,
+        Kind::SetPut => 15,
+        Kind::SetRead => 16,
+        Kind::SetTail => 17,
+        Kind::SetAppend => 18,
+        Kind::SetLevel => 19,
+        Kind::SetClose => 20,
+        Kind::SetFollow => 21,
+        Kind::MoveEnd => 22,
+        Kind::Unknown => 23,
+    }
+}
+
+pub fn kind_of(n: u32) -> Kind
+    ensures { λ r. ⌜ r ≡ kindOf n ⌝ }
+{
+    match n {
+        0 => Kind::Idle,
+        1 => Kind::Look,
+        2 => Kind::Take,
+        3 => Kind::Put,
+        4 => Kind::Read,
+        5 => Kind::Tail,
+        6 => Kind::TakeTail,
+        7 => Kind::Append,
+        8 => Kind::Level,
+        9 => Kind::Close,
+        10 => Kind::Follow,
+        11 => Kind::ChainHead,
+        12 => Kind::ChainNext,
+        13 => Kind::SetNext,
+        14 => Kind::SetLook,
+        15 => Kind::SetPut,
+        16 => Kind::SetRead,
+        17 => Kind::SetTail,
+        18 => Kind::SetAppend,
+        19 => Kind::SetLevel,
+        20 => Kind::SetClose,
+        21 => Kind::SetFollow,
+        22 => Kind::MoveEnd,
+        _ => Kind::Unknown,
+    }
+}
+
+// The answer of a stored number and node.
+pub fn answer_of(code: u32, node: u32) -> Answer
+    ensures { λ r. ⌜ r ≡ answerOf code node ⌝ }
+{
+    match code {
+        1 => Answer::New(node),
+        2 => Answer::Found(node),
+        3 => Answer::Full,
+        _ => Answer::Nothing,
+    }
+}
+
+// The first word of worker i.
+fn worker_place(i: u32) -> usize
+    ensures { λ r. ⌜ (r ≡ workerPlace 3 i) × (r ≤ 549755813760) ⌝ }
+{
+    (Settings::WORKER_WORDS as usize) * (i as usize)
+}
+
+// The first word of Move j of worker i.
+fn move_place(i: u32, j: u32) -> usize
+    ensures { λ r. ⌜ (r ≡ movePlace 3 i j) × (r ≤ 600000000000) ⌝ }
+{
+    worker_place(i) + 16 + 11 * (j as usize)
+}
+
+// The number of Moves of worker i.
+pub fn moves_at(words: &[u32], i: u32) -> u32
+    ensures { λ r. ⌜ r ≡ movesAt 3 (now (words .entry)) i ⌝ }
+{
+    at(words, worker_place(i) + 9)
+}
+
+impl Head {
+    fn from_words(b: [u32; 9]) -> Head
+        ensures { λ r. ⌜ r ≡ headFrom b ⌝ }
+    {
+        Head {
+            kind: kind_of(b[0]),
+            pixel: b[1],
+            level: b[2],
+            node: b[3],
+            count: b[4],
+            held_node: b[5],
+            held_level: b[6],
+            answer: b[7],
+            answer_node: b[8],
+        }
+    }
+
+    // The head's words, and behind them the number of Moves.
+    fn to_words(self, moves: u32) -> [u32; 10]
+        ensures { λ r. ⌜ r ≡ headList self moves ⌝ }
+    {
+        let k = self.kind;
+        [
+            kind_no(k),
+            self.pixel,
+            self.level,
+            self.node,
+            self.count,
+            self.held_node,
+            self.held_level,
+            self.answer,
+            self.answer_node,
+            moves,
+        ]
+    }
+
+    pub fn load(words: &[u32], i: u32) -> Head
+        ensures { λ r. ⌜ r ≡ headAt 3 (now (words .entry)) i ⌝ }
+    {
+        let mut b = [0u32; 9];
+        copy_out(words, worker_place(i), &mut b);
+        Head::from_words(b)
+    }
+
+    pub fn store(self, moves: u32, words: &mut [u32], i: u32)
+        ensures { λ r. ⌜ now (words .exit) ≡ storeHead 3 self moves i (now (words .entry)) ⌝ }
+    {
+        let b = self.to_words(moves);
+        copy_in(words, worker_place(i), &b);
+    }
+}
+
+impl Move {
+    pub fn fresh(home: u32, child: u32) -> Move
+        ensures { λ r. ⌜ r ≡ newMove home child ⌝ }
+    {
+        Move {
+            home: home,
+            child: child,
+            count: 0,
+            nodes: [0u32; 8],
+        }
+    }
+
+    pub fn load(words: &[u32], i: u32, j: u32) -> Move
+        ensures { λ r. ⌜ r ≡ moveAt 3 (now (words .entry)) i j ⌝ }
+    {
+        let p = move_place(i, j);
+        let mut n = [0u32; 8];
+        copy_out(words, p + 3, &mut n);
+        Move {
+            home: at(words, p),
+            child: at(words, p + 1),
+            count: at(words, p + 2),
+            nodes: n,
+        }
+    }
+
+    pub fn store(self, words: &mut [u32], i: u32, j: u32)
+        ensures { λ r. ⌜ now (words .exit) ≡ moveTo self (movePlace 3 i j) (now (words .entry)) ⌝ }
+    {
+        let p = move_place(i, j);
+        let f = [self.home, self.child, self.count];
+        let n = self.nodes;
+        copy_in(words, p, &f);
+        copy_in(words, p + 3, &n);
+    }
+}
+
+fn within(x: u32, hi: u32) -> bool
+    ensures { λ r. ⌜ r ≡ within x hi ⌝ }
+{
+    and(le(1, x), le(x, hi))
+}
+
+fn on_chain(k: u32) -> bool
+    ensures { λ r. ⌜ r ≡ onChain k ⌝ }
+{
+    if k <= 10 {
+        le(5, k)
+    } else {
+        and(le(17, k), le(k, 21))
+    }
+}
+
+fn count_fits(s: Settings, count: u32) -> bool
+    requires { ⌜ s .limit ≤ 8 ⌝ }
+    ensures { λ r. ⌜ r ≡ within count (s .limit + 1) ⌝ }
+{
+    within(count, s.limit + 1)
+}
+
+fn call_fits(s: Settings, k: u32, h: Head) -> bool
+    requires { ⌜ s .limit ≤ 8 ⌝ }
+    ensures { λ r. ⌜ r ≡ callFits s k h ⌝ }
+{
+    let p = le(h.pixel, 16777215);
+    if on_chain(k) {
+        and(p, count_fits(s, h.count))
+    } else {
+        and(p, true)
+    }
+}
+
+fn has_node(k: u32) -> bool
+    ensures { λ r. ⌜ r ≡ hasNode k ⌝ }
+{
+    and(le(12, k), le(k, 21))
+}
+
+fn inner_fits(s: Settings, k: u32, count: u32) -> bool
+    ensures { λ r. ⌜ r ≡ innerFits s k count ⌝ }
+{
+    if has_node(k) {
+        within(count, s.limit)
+    } else {
+        eq(count, 0)
+    }
+}
+
+// The number of nodes that Move j of worker i remembers.
+fn move_count(words: &[u32], i: u32, j: u32) -> u32
+    ensures { λ r. ⌜ r ≡ moveAt 3 (now (words .entry)) i j .count ⌝ }
+{
+    at(words, move_place(i, j) + 2)
+}
+
+// The first n Moves of worker i each remember a node, and at most the chain limit.
+fn outer_fit(s: Settings, words: &[u32], i: u32, n: u32) -> bool
+    ensures { λ r. ⌜ r ≡ every (outerFits s) (firstMoves 3 (now (words .entry)) i n) ⌝ }
+{
+    let mut ok = true;
+    let mut j = 0;
+    while j < n {
+        ok = and(within(move_count(words, i, j), s.limit), ok);
+        j += 1;
+    }
+    ok
+}
+
+fn moves_fit(s: Settings, k: u32, words: &[u32], i: u32, n: u32) -> bool
+    ensures { λ r. ⌜ r ≡ movesFit s k (firstMoves 3 (now (words .entry)) i n) ⌝ }
+{
+    if n == 0 {
+        false
+    } else {
+        and(
+            inner_fits(s, k, move_count(words, i, n - 1)),
+            outer_fit(s, words, i, n - 1),
+        )
+    }
+}
+
+// A moving worker's Moves, given their number.
+fn moving_fits(s: Settings, k: u32, words: &[u32], i: u32, n: u32) -> bool
+    ensures { λ r. ⌜ r ≡ movingFits 3 s k (firstMoves 3 (now (words .entry)) i n) ⌝ }
+{
+    if n <= Settings::DEPTHS - 1 {
+        moves_fit(s, k, words, i, n)
+    } else {
+        false
+    }
+}
+
+fn open_fits(s: Settings, k: u32, h: Head, words: &[u32], i: u32) -> bool
+    requires { ⌜ s .limit ≤ 8 ⌝ }
+    ensures { λ r. ⌜ r ≡ pick (leb k 10) (both (callFits s k h) (eqb (movesAt 3 (now (words .entry)) i) 0)) (pick (leb k 22) (both (callFits s k h) (movingFits 3 s k (firstMoves 3 (now (words .entry)) i (movesAt 3 (now (words .entry)) i)))) false) ⌝ }
+{
+    let m = moves_at(words, i);
+    if k <= 10 {
+        and(call_fits(s, k, h), eq(m, 0))
+    } else {
+        if k <= 22 {
+            and(call_fits(s, k, h), moving_fits(s, k, words, i, m))
+        } else {
+            false
+        }
+    }
+}
+
+// The record of worker i fits its layout.
+pub fn fits(s: Settings, words: &[u32], i: u32) -> bool
+    requires { ⌜ s .limit ≤ 8 ⌝ }
+    ensures { λ r. ⌜ r ≡ fits 3 s (load 3 (now (words .entry)) i) ⌝ }
+{
+    let h = Head::load(words, i);
+    let kind = h.kind;
+    let k = kind_no(kind);
+    if k == 0 {
+        le(h.answer, 3)
+    } else {
+        open_fits(s, k, h, words, i)
+    }
+}

@@ -1,0 +1,53 @@
+-- What a turn does, by the kind of its worker's record.
+-- Relies on the kinds of searching and moving.
+use Prim.Native.Nat.{ℕ}
+use mathlib.Core.List.{List, [], _∷_}
+use Rattle.settings.specs.declared.Settings.{Settings}
+use Rattle.areas.specs.Memory.{Memory}
+use Rattle.record.specs.declared.Kind.{Kind}
+use Rattle.record.specs.declared.Kind.the-variants.{Idle, Look, Take, Put, Read, Tail, TakeTail, Append, Level, Close, Follow, ChainHead, ChainNext, SetNext, SetLook, SetPut, SetRead, SetTail, SetAppend, SetLevel, SetClose, SetFollow, MoveEnd, Unknown}
+use Rattle.record.specs.declared.Head.{Head}
+use Rattle.record.specs.declared.Move.{Move}
+use Rattle.record.specs.Layout.{Record, newMove}
+use Rattle.rules.specs.Steps.{Step, going}
+use Rattle.rules.specs.Searching as searching
+use Rattle.rules.specs.Moving as moving
+
+-- the innermost Move (a moving worker has one), and those around it
+unfoldable pub inner : List Move → Move
+inner [] = newMove 0 0
+inner (v ∷ os) = v
+
+unfoldable pub outer : List Move → List Move
+outer [] = []
+outer (v ∷ os) = os
+
+unfoldable pub actBy : Kind → ℕ → Settings → Head → List Move → Memory → Step
+actBy Idle w s h ms m = going s h ms m
+actBy Look w s h ms m = searching.look w s h m
+actBy Take w s h ms m = searching.take s h m
+actBy Put w s h ms m = searching.put w s h m
+actBy Read w s h ms m = searching.read w s h m
+actBy Tail w s h ms m = searching.tail w s h m
+actBy TakeTail w s h ms m = searching.takeTail s h m
+actBy Append w s h ms m = searching.append w s h m
+actBy Level w s h ms m = searching.level w s h m
+actBy Close w s h ms m = searching.close w s h m
+actBy Follow w s h ms m = searching.follow w s h m
+actBy ChainHead w s h ms m = moving.chainHead w s h (inner ms) (outer ms) m
+actBy ChainNext w s h ms m = moving.chainNext w s h (inner ms) (outer ms) m
+actBy SetNext w s h ms m = moving.setNext w s h (inner ms) (outer ms) m
+actBy SetLook w s h ms m = moving.setLook w s h (inner ms) (outer ms) m
+actBy SetPut w s h ms m = moving.setPut w s h (inner ms) (outer ms) m
+actBy SetRead w s h ms m = moving.setRead w s h (inner ms) (outer ms) m
+actBy SetTail w s h ms m = moving.setTail w s h (inner ms) (outer ms) m
+actBy SetAppend w s h ms m = moving.setAppend w s h (inner ms) (outer ms) m
+actBy SetLevel w s h ms m = moving.setLevel w s h (inner ms) (outer ms) m
+actBy SetClose w s h ms m = moving.setClose w s h (inner ms) (outer ms) m
+actBy SetFollow w s h ms m = moving.setFollow w s h (inner ms) (outer ms) m
+actBy MoveEnd w s h ms m = moving.moveEnd w s h (inner ms) (outer ms) m
+actBy Unknown w s h ms m = going s h ms m
+
+-- one turn of the worker with this record
+unfoldable pub act : ℕ → Settings → Record → Memory → Step
+act w s r m = actBy (r .head .kind) w s (r .head) (r .moves) m

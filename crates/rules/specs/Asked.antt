@@ -1,0 +1,219 @@
+-- Questions 4 to 9, each under its number. Question 6 has a part for each kind of turn, apart from what the kind then does.
+-- Relies on the record's layout and on the cells that the kinds of turn read.
+use Prim.Native.Nat.{ℕ, _+_, _-_}
+use mathlib.Core.Bool.{Bool, true, not}
+use mathlib.Core.List.{List, [], _∷_}
+use lib.Dec.{eqb, ltb, leb}
+use lib.ListN.{length}
+use Rattle.words.specs.Choice.{pick, both, every}
+use Rattle.words.specs.Digits.{depths, maxSide, maxPixel}
+use Rattle.settings.specs.Sizes.{levelCount, maxMoves}
+use Rattle.settings.specs.declared.Settings.{Settings}
+use Rattle.areas.specs.Memory.{Memory, isNode, named, pixelAt, nextAt, depthAt, cellAt, levelTaken, nodeTaken, refTaken}
+use Rattle.areas.specs.declared.Cell.{Cell}
+use Rattle.record.specs.declared.Kind.{Kind}
+use Rattle.record.specs.declared.Kind.the-variants.{Idle, Look, Take, Put, Read, Tail, TakeTail, Append, Level, Close, Follow, ChainHead, ChainNext, SetNext, SetLook, SetPut, SetRead, SetTail, SetAppend, SetLevel, SetClose, SetFollow, MoveEnd, Unknown}
+use Rattle.record.specs.declared.Head.{Head}
+use Rattle.record.specs.declared.Move.{Move}
+use Rattle.record.specs.Kinds.{kindNo}
+use Rattle.record.specs.Layout.{Record}
+use Rattle.record.specs.Fits.{fits}
+use Rattle.rules.specs.Heads.{lastNode}
+use Rattle.rules.specs.Steps.{expected, backMeets}
+use Rattle.rules.specs.Searching.{entryOf}
+use Rattle.rules.specs.Moving.{homeCell, setCellOf}
+use Rattle.rules.specs.Acts.{inner, outer}
+
+-- "Is the worker number .. below workers?"
+unfoldable pub question4 : Settings → ℕ → Bool
+question4 s i = ltb i (s .workers)
+
+-- ".. or each in a list of turns"
+unfoldable pub question4All : Settings → List ℕ → Bool
+question4All s l = every (question4 s) l
+
+-- "Are row and column at most 4,095?"
+unfoldable pub question5 : ℕ → ℕ → Bool
+question5 row column = both (leb row maxSide) (leb column maxSide)
+
+-- the parts of question 6
+
+-- a node or level in hand: there is one, and it is taken; a spare one may be missing
+unfoldable pub nodeInHand : Settings → Head → Bool
+nodeInHand s h = both (leb 1 (h .«held_node»)) (leb (h .«held_node») (s .«nodes_taken»))
+
+unfoldable pub spareNode : Settings → Head → Bool
+spareNode s h = leb (h .«held_node») (s .«nodes_taken»)
+
+unfoldable pub levelInHand : Settings → Head → Bool
+levelInHand s h = both (leb 1 (h .«held_level»)) (leb (h .«held_level») (s .«levels_taken»))
+
+unfoldable pub spareLevel : Settings → Head → Bool
+spareLevel s h = leb (h .«held_level») (s .«levels_taken»)
+
+-- level g is taken, and "depths .. at most 7": an entry is picked in it
+unfoldable pub picksIn : ℕ → Settings → ℕ → List ℕ → Bool
+picksIn w s g levels = both (levelTaken s g) (leb (depthAt w levels g) (depths w - 1))
+
+-- node i is taken, and "each pixel word read at most 16,777,215"
+unfoldable pub pixelFits : Settings → ℕ → List ℕ → Bool
+pixelFits s i nodes = both (nodeTaken s i) (leb (pixelAt nodes i) maxPixel)
+
+-- the word read from a cell "names a taken node or level"
+unfoldable pub readsRef : ℕ → Settings → Cell → Memory → Bool
+readsRef w s x m = refTaken s (cellAt w m x)
+
+-- Read and Follow: as above, and a node's pixel word is compared
+unfoldable pub comparesRef : Settings → ℕ → List ℕ → Bool
+comparesRef s word nodes = pick (isNode word) (pixelFits s (named word) nodes) (levelTaken s (named word))
+
+-- Follow and SetFollow: "does going back meet its level within 7 moves (previous words read)"
+unfoldable pub goesBack : ℕ → Settings → Head → ℕ → List ℕ → Bool
+goesBack w s h word levels = pick (isNode word) true (backMeets w s levels (depths w - 1) (h .level) (named word))
+
+-- Level and SetLevel: "depths, a new level's too, at most 7", "is a needed level left?"
+unfoldable pub levelLeft : ℕ → Settings → Head → List ℕ → Bool
+levelLeft w s h levels =
+    both (leb (depthAt w levels (h .level) + 1) (depths w - 1))
+    (pick (eqb (h .«held_level») 0) (ltb (s .«levels_taken») (levelCount w s)) true)
+
+-- ChainHead and ChainNext: "the moved chain at most the chain limit"
+unfoldable pub remembers : Settings → Move → ℕ → Bool
+remembers s v word = pick (isNode word) (leb (v .count + 1) (s .limit)) true
+
+-- SetClose: "Moves one inside another at most 7", where the exchange would be done
+unfoldable pub moveLeft : ℕ → Head → List Move → List ℕ → Bool
+moveLeft w h ms nodes = pick (expected h (nextAt nodes (h .node))) (ltb (length ms) (maxMoves w)) true
+
+-- the key of a Move inside a Move is the outer N's pixel
+unfoldable pub keyFits : Settings → List Move → List ℕ → Bool
+keyFits s [] nodes = true
+keyFits s (o ∷ os) nodes = pixelFits s (lastNode o) nodes
+
+-- Take, TakeTail
+unfoldable pub takes : Settings → Head → Bool
+takes s h = both (levelTaken s (h .level)) (spareNode s h)
+
+-- Tail, SetTail: the level, R, and R's next
+unfoldable pub standsAt : Settings → Head → Bool
+standsAt s h = both (levelTaken s (h .level)) (nodeTaken s (h .node))
+
+unfoldable pub tails : Settings → Head → List ℕ → Bool
+tails s h nodes = both (standsAt s h) (refTaken s (nextAt nodes (h .node)))
+
+-- Level, SetLevel
+unfoldable pub takesLevel : ℕ → Settings → Head → List ℕ → Bool
+takesLevel w s h levels = both (levelTaken s (h .level)) (both (spareLevel s h) (levelLeft w s h levels))
+
+-- Close, SetClose
+unfoldable pub closes : Settings → Head → Bool
+closes s h = both (standsAt s h) (levelInHand s h)
+
+-- Look, Read, Put: the entry of K in H
+unfoldable pub looks : ℕ → Settings → Head → Memory → Bool
+looks w s h m = both (picksIn w s (h .level) (m .levels)) (readsRef w s (entryOf w h (m .levels)) m)
+
+unfoldable pub puts : ℕ → Settings → Head → List ℕ → Bool
+puts w s h levels = both (picksIn w s (h .level) levels) (nodeInHand s h)
+
+unfoldable pub reads : ℕ → Settings → Head → Memory → Bool
+reads w s h m = both (picksIn w s (h .level) (m .levels)) (comparesRef s (cellAt w m (entryOf w h (m .levels))) (m .nodes))
+
+unfoldable pub appends : Settings → Head → Bool
+appends s h = both (standsAt s h) (nodeInHand s h)
+
+unfoldable pub follows : ℕ → Settings → Head → Memory → Bool
+follows w s h m =
+    both (standsAt s h)
+    (both (comparesRef s (nextAt (m .nodes) (h .node)) (m .nodes)) (goesBack w s h (nextAt (m .nodes) (h .node)) (m .levels)))
+
+-- ChainHead, MoveEnd: the entry of the key in H
+unfoldable pub picksHome : ℕ → Settings → Move → List Move → Memory → Bool
+picksHome w s v os m = both (picksIn w s (v .home) (m .levels)) (keyFits s os (m .nodes))
+
+unfoldable pub chainHeads : ℕ → Settings → Head → Move → List Move → Memory → Bool
+chainHeads w s h v os m =
+    both (picksHome w s v os m)
+    (both (readsRef w s (homeCell w h v os m) m) (remembers s v (cellAt w m (homeCell w h v os m))))
+
+unfoldable pub chainNexts : Settings → Move → List ℕ → Bool
+chainNexts s v nodes =
+    both (nodeTaken s (lastNode v))
+    (both (refTaken s (nextAt nodes (lastNode v))) (remembers s v (nextAt nodes (lastNode v))))
+
+unfoldable pub moveEnds : ℕ → Settings → Move → List Move → Memory → Bool
+moveEnds w s v os m = both (picksHome w s v os m) (levelTaken s (v .child))
+
+-- SetNext: N and the level that it is set into
+unfoldable pub setNexts : Settings → Head → Move → Bool
+setNexts s h v = both (nodeTaken s (lastNode v)) (levelTaken s (h .level))
+
+-- SetLook, SetPut, SetRead: the entry of N's pixel
+unfoldable pub setPuts : ℕ → Settings → Head → Move → Memory → Bool
+setPuts w s h v m = both (picksIn w s (h .level) (m .levels)) (pixelFits s (lastNode v) (m .nodes))
+
+unfoldable pub setLooks : ℕ → Settings → Head → Move → Memory → Bool
+setLooks w s h v m = both (setPuts w s h v m) (readsRef w s (setCellOf w h v m) m)
+
+unfoldable pub setAppends : Settings → Head → Move → Bool
+setAppends s h v = both (standsAt s h) (nodeTaken s (lastNode v))
+
+unfoldable pub setCloses : ℕ → Settings → Head → List Move → List ℕ → Bool
+setCloses w s h ms nodes = both (closes s h) (moveLeft w h ms nodes)
+
+unfoldable pub setFollows : ℕ → Settings → Head → Memory → Bool
+setFollows w s h m = both (tails s h (m .nodes)) (goesBack w s h (nextAt (m .nodes) (h .node)) (m .levels))
+
+-- what question 6 asks of a turn besides that the record fits, by kind
+unfoldable pub readsBy : Kind → ℕ → Settings → Head → List Move → Memory → Bool
+readsBy Idle w s h ms m = true
+readsBy Look w s h ms m = looks w s h m
+readsBy Take w s h ms m = takes s h
+readsBy Put w s h ms m = puts w s h (m .levels)
+readsBy Read w s h ms m = reads w s h m
+readsBy Tail w s h ms m = tails s h (m .nodes)
+readsBy TakeTail w s h ms m = takes s h
+readsBy Append w s h ms m = appends s h
+readsBy Level w s h ms m = takesLevel w s h (m .levels)
+readsBy Close w s h ms m = closes s h
+readsBy Follow w s h ms m = follows w s h m
+readsBy ChainHead w s h ms m = chainHeads w s h (inner ms) (outer ms) m
+readsBy ChainNext w s h ms m = chainNexts s (inner ms) (m .nodes)
+readsBy SetNext w s h ms m = setNexts s h (inner ms)
+readsBy SetLook w s h ms m = setLooks w s h (inner ms) m
+readsBy SetPut w s h ms m = setPuts w s h (inner ms) m
+readsBy SetRead w s h ms m = setLooks w s h (inner ms) m
+readsBy SetTail w s h ms m = tails s h (m .nodes)
+readsBy SetAppend w s h ms m = setAppends s h (inner ms)
+readsBy SetLevel w s h ms m = takesLevel w s h (m .levels)
+readsBy SetClose w s h ms m = setCloses w s h ms (m .nodes)
+readsBy SetFollow w s h ms m = setFollows w s h m
+readsBy MoveEnd w s h ms m = moveEnds w s (inner ms) (outer ms) m
+readsBy Unknown w s h ms m = true
+
+-- question 6 of a turn: "Does the record fit its layout, does each reference read in this turn .. name a taken node or level, .."
+unfoldable pub question6 : ℕ → Settings → Record → Memory → Bool
+question6 w s r m = both (fits w s r) (readsBy (r .head .kind) w s (r .head) (r .moves) m)
+
+-- question 6 of a start and of reading a last answer, which read the record alone
+unfoldable pub question6Record : ℕ → Settings → Record → Bool
+question6Record w s r = fits w s r
+
+-- "For a start: is the worker idle?"
+unfoldable pub question7 : Record → Bool
+question7 r = eqb (kindNo (r .head .kind)) 0
+
+-- "For a turn: has it a call open?"
+unfoldable pub question8 : Record → Bool
+question8 r = not (question7 r)
+
+-- "For Take and TakeTail: is a node spare or left?"
+unfoldable pub nodeLeft : Settings → Head → Bool
+nodeLeft s h = pick (eqb (h .«held_node») 0) (ltb (s .«nodes_taken») (s .nodes)) true
+
+-- Take and TakeTail
+unfoldable pub takesNode : Kind → Bool
+takesNode k = pick (eqb (kindNo k) 2) true (eqb (kindNo k) 6)
+
+unfoldable pub question9 : Settings → Record → Bool
+question9 s r = pick (takesNode (r .head .kind)) (nodeLeft s (r .head)) true

@@ -1,0 +1,70 @@
+-- Demand 3 as one statement with its parts named, and the two facts that document 01 says "is proved" of: 6 is never given, a level is left.
+-- Relies on the operations, the sequence and its row of calls, and on what is reached.
+use Prim.Native.Nat.{ℕ, zero, suc, _+_, _≤_, _<_}
+use mathlib.Core.Path.{_≡_}
+use mathlib.Core.Logic.{_≢_, _⊎_}
+use mathlib.Core.Bool.{Bool, false}
+use mathlib.Core.List.{List, [], _∷_, _++_, List·Permᴰ}
+use lib.Dec.{eqb}
+use Rattle.words.specs.Choice.{pick, both}
+use Rattle.words.specs.Digits.{maxPixel}
+use Rattle.settings.specs.Sizes.{levelCount}
+use Rattle.settings.specs.declared.Settings.{Settings}
+use Rattle.areas.specs.Memory.{Areas, nodeRef, pixelAt}
+use Rattle.record.specs.declared.Answer.the-variants.{Full}
+use Rattle.record.specs.declared.Kind.the-variants.{Level, SetLevel}
+use Rattle.rules.specs.Asked.{takesNode}
+use Rattle.rules.specs.Operations.{opening, recordOf, memoryOf}
+use Rattle.rules.specs.Lists.{State, after}
+use Rattle.rules.specs.Reached.{Reached}
+use Rattle.rules.specs.Calls.{Event, starts, turns, happens, history, stateAfter, Call, calls, Book, Holds, ReadsRow, InOrder}
+
+-- "After the whole sequence the reached nodes, each with its pixel, are exactly the pairs in the book."
+pub record ReachedIsBook (w : ℕ) (x : State) (b : Book) : Type 0 where
+  pub in-book : (i : ℕ) → Reached w (memoryOf (x .areas)) (nodeRef i) → Holds b (pixelAt (x .areas .nodes) i) i × (pixelAt (x .areas .nodes) i ≤ maxPixel)
+  pub in-memory : (p i : ℕ) → Holds b p i → Reached w (memoryOf (x .areas)) (nodeRef i) × (pixelAt (x .areas .nodes) i ≡ p)
+
+-- "There is a row in which each call meets its line, and a call that ended before another started stands earlier."
+pub record Row (w : ℕ) (x : State) (es : List Event) : Type 0 where
+  pub row : List Call
+  pub book : Book
+  -- "The row is an order of all ended calls, each standing in it once"
+  pub all-calls : List·Permᴰ (calls (history w es x)) row
+  pub in-order : InOrder row
+  pub reads : ReadsRow [] row book
+  pub reached : ReachedIsBook w (stateAfter w es x) book
+
+-- a turn that takes a next number for a node: Take or TakeTail, nothing spare, carried out
+unfoldable pub takesNumber : ℕ → Event → State → Bool
+takesNumber w (starts i row column) x = false
+takesNumber w (turns i) x =
+    both (takesNode (recordOf w (x .areas) i .head .kind))
+    (both (eqb (recordOf w (x .areas) i .head .«held_node») 0) (eqb (happens w (turns i) x .reply .number) 0))
+
+unfoldable pub numbersTaken : ℕ → List Event → State → ℕ
+numbersTaken w [] x = 0
+numbersTaken w (e ∷ es) x = pick (takesNumber w e x) 1 0 + numbersTaken w es (after (happens w e x))
+
+-- what holds of one event e that finds the state x
+pub record EventOk (w : ℕ) (e : Event) (x : State) : Type 0 where
+  -- "In the settings given back with "full", nodes taken equals nodes."
+  pub full-taken : happens w e x .reply .answer ≡ Full → happens w e x .reply .settings .«nodes_taken» ≡ happens w e x .reply .settings .nodes
+  -- "6 is never given; this is proved."
+  pub never-6 : happens w e x .reply .number ≢ 6
+
+-- "With that many, a level is always left when one is needed; this is proved.": worker i is at Level or SetLevel and holds none
+pub record LevelLeft (w : ℕ) (i : ℕ) (x : State) : Type 0 where
+  pub left : (recordOf w (x .areas) i .head .kind ≡ Level) ⊎ (recordOf w (x .areas) i .head .kind ≡ SetLevel) → recordOf w (x .areas) i .head .«held_level» ≡ 0 → x .settings .«levels_taken» < levelCount w (x .settings)
+
+-- demand 3 of a sequence es from a state x that a carried out opening left
+pub record Demand3 (w : ℕ) (x : State) (es : List Event) : Type 0 where
+  pub row : Row w x es
+  -- of each event of the sequence, after the events before it
+  pub each : (before : List Event) (e : Event) (rest : List Event) → es ≡ before ++ e ∷ rest → EventOk w e (stateAfter w before x)
+  -- "Nodes taken is the number of turns up to then that took a next number for a node."
+  pub taken : (before rest : List Event) → es ≡ before ++ rest → stateAfter w before x .settings .«nodes_taken» ≡ numbersTaken w before x
+  pub level-left : (before rest : List Event) → es ≡ before ++ rest → (i : ℕ) → i < x .settings .workers → LevelLeft w i (stateAfter w before x)
+
+-- "It begins with the settings and areas that a carried out opening left, whatever the areas held before."
+abbrev pub Statement : ℕ → Type 0
+Statement w = (s : Settings) (a : Areas) → opening w s a .reply .number ≡ 0 → (es : List Event) → Demand3 w (after (opening w s a)) es

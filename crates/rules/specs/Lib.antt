@@ -1,0 +1,15 @@
+-- The definitions of document 01, in its order.
+-- Relies on words, settings, areas and record.
+pub mod Opening
+pub mod Heads
+pub mod Steps
+pub mod Searching
+pub mod Moving
+pub mod Acts
+pub mod Asked
+pub mod Operations
+pub mod Lists
+pub mod Reached
+pub mod Calls
+pub mod Refusals
+pub mod Demands

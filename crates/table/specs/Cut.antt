@@ -1,0 +1,33 @@
+-- The parts in which the code carries out start and last answer. They follow the code's cut and are tied to the operations' definitions
+-- by lemmas. Relies on rules for the questions and the operations.
+use Prim.Native.Nat.{ℕ}
+use mathlib.Core.List.{List}
+use lib.Dec.{eqb}
+use Rattle.words.specs.Choice.{pick}
+use Rattle.words.specs.Digits.{pixelNumber}
+use Rattle.settings.specs.Sizes.{firstThree}
+use Rattle.settings.specs.declared.Settings.{Settings}
+use Rattle.record.specs.declared.Answer.{Answer}
+use Rattle.record.specs.declared.Answer.the-variants.{Open}
+use Rattle.record.specs.declared.Head.{Head}
+use Rattle.record.specs.Kinds.{kindNo, answerOf}
+use Rattle.record.specs.Layout.{Record, headAt, storeHead}
+use Rattle.record.specs.Fits.{fits}
+use Rattle.rules.specs.Heads.{started}
+use Rattle.rules.specs.Asked.{question4, question7}
+
+-- questions 1 to 4 of worker i
+unfoldable pub firstFour : ℕ → Settings → ℕ → ℕ → ℕ → ℕ → ℕ
+firstFour w s i n g k = pick (eqb (firstThree w s n g k) 0) (pick (question4 s i) 0 4) (firstThree w s n g k)
+
+-- questions 6 and 7 of a start
+unfoldable pub sixSeven : ℕ → Settings → Record → ℕ
+sixSeven w s r = pick (fits w s r) (pick (question7 r) 0 7) 6
+
+-- the workers' words with the record of a call that starts
+unfoldable pub begun : ℕ → ℕ → ℕ → ℕ → List ℕ → List ℕ
+begun w i row column k = storeHead w (started (pixelNumber row column) (headAt w k i)) 0 i k
+
+-- the answer that a record holds, by its head
+unfoldable pub answerIn : Head → Answer
+answerIn h = pick (eqb (kindNo (h .kind)) 0) (answerOf (h .answer) (h .«answer_node»)) Open

@@ -1,0 +1,5 @@
+-- The laws of worker that other crates use.
+-- Relies on nothing.
+pub mod Asked
+pub mod Steps
+pub mod Turns
