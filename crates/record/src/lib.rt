@@ -10,6 +10,7 @@ ghost use Rattle.record.specs.Kinds.{kindOf, kindNo, answerOf};
 ghost use Rattle.record.specs.Layout.{workerPlace, movePlace, headFrom, headList, headAt, movesAt, moveAt, firstMoves, load, storeHead, moveTo, newMove};
 ghost use Rattle.record.specs.Fits.{onChain, hasNode, callFits, innerFits, outerFits, movesFit, movingFits, fits};
 use settings::Settings;
+use settings::within;
 use words::and;
 use words::at;
 use words::copy_in;
@@ -265,12 +266,6 @@ impl Move {
         copy_in(words, p, &f);
         copy_in(words, p + 3, &n);
     }
-}
-
-fn within(x: u32, hi: u32) -> bool
-    ensures { λ r. ⌜ r ≡ within x hi ⌝ }
-{
-    and(le(1, x), le(x, hi))
 }
 
 fn on_chain(k: u32) -> bool

@@ -17,7 +17,7 @@ pub struct Settings {
 }
 
 // x is 1 to hi.
-fn within(x: u32, hi: u32) -> bool
+pub fn within(x: u32, hi: u32) -> bool
     ensures { λ r. ⌜ r ≡ within x hi ⌝ }
 {
     and(le(1, x), le(x, hi))
