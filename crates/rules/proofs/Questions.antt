@@ -3,11 +3,11 @@
 use Prim.Native.Nat.{ℕ}
 use mathlib.Core.Path.{_≡_, refl, sym, ap, _∙_}
 use mathlib.Core.Logic.{_≢_}
-use mathlib.Core.Bool.{true, not}
+use mathlib.Core.Bool.{Bool, true, false, not}
 use mathlib.Core.List.{List, [], _∷_}
 use lib.Dec.{eqb}
 use borrow.Author.Tests.{eqb-true, eqb-false, eq-eqb, not-true}
-use Rattle.words.specs.Choice.{Question, every, firstNo}
+use Rattle.words.specs.Choice.{Question, asks, every, firstNo}
 use Rattle.words.proofs.Choice.{pick-both, pick-true, pick-false, both-left, both-right, both-true}
 use Rattle.settings.specs.declared.Settings.{Settings}
 use Rattle.areas.specs.Memory.{Areas}
@@ -62,6 +62,21 @@ gives-all-yes (q ∷ qs) o e =
 pub never-first : {n : ℕ} {qs : List Question} → Without n qs → FirstNo n qs → ⊥
 never-first {n} o (here {q} {qs} d p) = other n q qs o d
 never-first {n} o (later {q} {qs} p f) = never-first (others n q qs o) f
+
+-- a question that has another number than the one given was answered yes
+pub first-later : (k : ℕ) (b : Bool) (qs : List Question) {n : ℕ} → k ≢ n → firstNo (asks k b ∷ qs) ≡ n → (b ≡ true) × (firstNo qs ≡ n)
+unfolding firstNo
+first-later k b qs {n} h = pick-both (λ m. m ≡ n → (b ≡ true) × (firstNo qs ≡ n)) b (λ y e. (y, e)) (λ y e. absurd (h e))
+
+-- a question that is answered yes is passed over
+pub first-yes : (k : ℕ) {b : Bool} (qs : List Question) → b ≡ true → firstNo (asks k b ∷ qs) ≡ firstNo qs
+unfolding firstNo
+first-yes k qs y = pick-true _ _ _ y
+
+-- the last question gives its number when it is answered no
+pub last-no : (k : ℕ) (b : Bool) → k ≢ 0 → firstNo (asks k b ∷ []) ≡ k → b ≡ false
+unfolding firstNo
+last-no k b h = pick-both (λ m. m ≡ k → b ≡ false) b (λ y e. absurd (h (sym e))) (λ y e. y)
 
 -- a reply with the number of the first no has each number in exactly its own case
 pub numbered : (qs : List Question) (r : Result) → Without 0 qs → r .reply .number ≡ firstNo qs → Numbered qs r

@@ -1,0 +1,174 @@
+-- Nodes taken counts the turns that took a next number for a node. This needs no invariant: it is read off the definitions.
+-- Relies on the definitions of the turns and on demand 1.
+use Prim.Native.Nat.{ℕ, zero, suc, _+_, _-_}
+use mathlib.Core.Path.{_≡_, refl, sym, ap, _∙_}
+use mathlib.Core.Logic.{_≢_}
+use mathlib.Core.Bool.{Bool, true, false}
+use mathlib.Core.List.{List, [], _∷_}
+use native.Mathlib.Decide.{ℕ-discrete}
+use native.Mathlib.Omega.{arith}
+use lib.Dec.{eqb}
+use borrow.Author.Tests.{eq-eqb, ne-eqb}
+use Rattle.words.specs.Choice.{pick, both}
+use Rattle.words.proofs.Choice.{pick-both, pick-true, pick-false}
+use Rattle.settings.specs.declared.Settings.{Settings}
+use Rattle.areas.specs.Memory.{Memory, isNode}
+use Rattle.areas.specs.declared.Cell.{Cell}
+use Rattle.record.specs.declared.Kind.{Kind}
+use Rattle.record.specs.declared.Kind.the-variants.{Idle, Look, Take, Put, Read, Tail, TakeTail, Append, Level, Close, Follow, ChainHead, ChainNext, SetNext, SetLook, SetPut, SetRead, SetTail, SetAppend, SetLevel, SetClose, SetFollow, MoveEnd, Unknown}
+use Rattle.record.specs.declared.Head.{Head}
+use Rattle.record.specs.declared.Move.{Move}
+use Rattle.record.specs.Kinds.{kindNo}
+use Rattle.record.specs.Layout.{Record}
+use Rattle.rules.specs.Steps.{Step, expected, tookNode, tookLevel, withNode, takeNode, withLevel, takeLevel, closed}
+use Rattle.rules.specs.Searching as searching
+use Rattle.rules.specs.Moving as moving
+use Rattle.rules.specs.Acts.{actBy, act, inner, outer}
+use Rattle.rules.specs.Asked.{takesNode}
+use Rattle.rules.specs.Operations.{Result, recordOf, memoryOf, start, turn, taken, full}
+use Rattle.rules.specs.Lists.{State, after}
+use Rattle.rules.specs.Calls.{Event, starts, turns, happens, stateAfter}
+use Rattle.rules.specs.Demands.{takesNumber, numbersTaken}
+use Rattle.rules.proofs.Carried.{start-done}
+use Rattle.rules.proofs.OneTurn.{done-number, nine-is-full, turn-refused}
+use Rattle.rules.proofs.Refused.{refuses-start}
+
+-- the nodes taken after a step
+abbrev Same : Settings → Step → Type 0
+Same s t = t .settings .«nodes_taken» ≡ s .«nodes_taken»
+
+module _ (w : ℕ) (s : Settings) (h : Head) where
+  level-same : (k : Kind) (ms : List Move) (m : Memory) → Same s (takeLevel w k s h ms m)
+  unfolding takeLevel withLevel tookLevel
+  level-same k ms m = pick-both (Same s) (eqb (h .«held_level») 0) (λ e. refl) (λ e. refl)
+
+  closed-same : (k : Kind) (ms : List Move) (m : Memory) → Same s (closed w k s h ms m)
+  unfolding closed
+  closed-same k ms m = pick-both (Same s) (expected h _) (λ e. refl) (λ e. refl)
+
+  placed-same : (k : Kind) (x : Cell) (m : Memory) → Same s (searching.placed w k s h x m)
+  unfolding searching.placed
+  placed-same k x m = pick-both (Same s) (expected h _) (λ e. refl) (λ e. refl)
+
+  met-same : (c g word : ℕ) (m : Memory) → Same s (searching.met s h c g word m)
+  unfolding searching.met searching.metNode
+  met-same c g word m = pick-both (Same s) (isNode word) (λ e. pick-both (Same s) (eqb _ (h .pixel)) (λ q. refl) (λ q. refl)) (λ e. refl)
+
+  chain-same : (v : Move) (os : List Move) (word : ℕ) (m : Memory) → Same s (moving.chainWord s h v os word m)
+  unfolding moving.chainWord moving.setLast
+  chain-same v os word m = pick-both (Same s) (isNode word) (λ e. refl) (λ e. refl)
+
+  set-same : (k : Kind) (v : Move) (os : List Move) (x : Cell) (m : Memory) → Same s (moving.setNode w k s h v os x m)
+  unfolding moving.setNode moving.setLast
+  set-same k v os x m = pick-both (Same s) (expected h _) (λ e. refl) (λ e. refl)
+
+  -- Take and TakeTail with nothing held take the next number
+  take-counts : (k : Kind) (m : Memory) → takeNode k s h m .settings .«nodes_taken» ≡ s .«nodes_taken» + pick (eqb (h .«held_node») 0) 1 0
+  unfolding takeNode withNode tookNode
+  take-counts k m =
+      pick-both (λ (t : Step). t .settings .«nodes_taken» ≡ s .«nodes_taken» + pick (eqb (h .«held_node») 0) 1 0) (eqb (h .«held_node») 0)
+      (λ e. let q : _≡_ {A = ℕ} (pick (eqb (h .«held_node») 0) 1 0) 1 = pick-true _ _ _ e in omega arith)
+      (λ e. let q : _≡_ {A = ℕ} (pick (eqb (h .«held_node») 0) 1 0) 0 = pick-false _ _ _ e in omega arith)
+
+  plus-zero : {n : ℕ} → n ≡ s .«nodes_taken» → n ≡ s .«nodes_taken» + 0
+  plus-zero e = omega arith
+
+  -- by kind
+  kind-counts : (k : Kind) (ms : List Move) (m : Memory) → actBy k w s h ms m .settings .«nodes_taken» ≡ s .«nodes_taken» + pick (both (takesNode k) (eqb (h .«held_node») 0)) 1 0
+  unfolding actBy takesNode kindNo both pick searching.look searching.take searching.put searching.read searching.readWord searching.tail searching.takeTail searching.append searching.level searching.close searching.follow searching.followWord moving.chainHead moving.chainNext moving.setNext moving.setLook moving.setPut moving.setRead moving.setReadWord moving.setMet moving.setTail moving.setAppend moving.setLevel moving.setClose moving.setFollow moving.setFollowWord moving.moveEnd
+  kind-counts Idle ms m = plus-zero refl
+  kind-counts Look ms m = plus-zero refl
+  kind-counts Take ms m = take-counts Put m
+  kind-counts Put ms m = plus-zero (placed-same Read _ m)
+  kind-counts Read ms m = plus-zero (met-same 1 _ _ m)
+  kind-counts Tail ms m = plus-zero refl
+  kind-counts TakeTail ms m = take-counts Append m
+  kind-counts Append ms m = plus-zero (placed-same Follow _ m)
+  kind-counts Level ms m = plus-zero (level-same Close [] m)
+  kind-counts Close ms m = plus-zero (closed-same Follow [] m)
+  kind-counts Follow ms m = plus-zero (met-same _ _ _ m)
+  kind-counts ChainHead ms m = plus-zero (chain-same _ _ _ m)
+  kind-counts ChainNext ms m = plus-zero (chain-same _ _ _ m)
+  kind-counts SetNext ms m = plus-zero refl
+  kind-counts SetLook ms m = plus-zero refl
+  kind-counts SetPut ms m = plus-zero (set-same SetRead _ _ _ m)
+  kind-counts SetRead ms m = plus-zero refl
+  kind-counts SetTail ms m = plus-zero refl
+  kind-counts SetAppend ms m = plus-zero (set-same SetFollow _ _ _ m)
+  kind-counts SetLevel ms m = plus-zero (level-same SetClose _ m)
+  kind-counts SetClose ms m = plus-zero (closed-same SetFollow _ m)
+  kind-counts SetFollow ms m = plus-zero refl
+  kind-counts MoveEnd ms m = plus-zero refl
+  kind-counts Unknown ms m = plus-zero refl
+
+-- a turn that is carried out
+act-counts : (w : ℕ) (s : Settings) (r : Record) (m : Memory) → act w s r m .settings .«nodes_taken» ≡ s .«nodes_taken» + pick (both (takesNode (r .head .kind)) (eqb (r .head .«held_node») 0)) 1 0
+unfolding act
+act-counts w s r m = kind-counts w s (r .head) (r .head .kind) (r .moves) m
+
+both-true-right : (a b : Bool) → both a (both b true) ≡ both a b
+unfolding both
+both-true-right true true = refl
+both-true-right true false = refl
+both-true-right false b = refl
+
+both-false-last : (a b : Bool) → both a (both b false) ≡ false
+unfolding both
+both-false-last true true = refl
+both-false-last true false = refl
+both-false-last false b = refl
+
+module _ (w : ℕ) (x : State) where
+  turn-counts : (i : ℕ) → turn w (x .settings) i (x .areas) .reply .settings .«nodes_taken» ≡ x .settings .«nodes_taken» + pick (takesNumber w (turns i) x) 1 0
+  unfolding takesNumber happens taken full
+  turn-counts i = by (ℕ-discrete (turn w (x .settings) i (x .areas) .reply .number) 0) (ℕ-discrete (turn w (x .settings) i (x .areas) .reply .number) 9)
+    where
+      r : Result
+      r = turn w (x .settings) i (x .areas)
+
+      a : Bool
+      a = takesNode (recordOf w (x .areas) i .head .kind)
+
+      b : Bool
+      b = eqb (recordOf w (x .areas) i .head .«held_node») 0
+
+      none : r .reply .settings .«nodes_taken» ≡ x .settings .«nodes_taken» → r .reply .number ≢ 0 → r .reply .settings .«nodes_taken» ≡ x .settings .«nodes_taken» + pick (both a (both b (eqb (r .reply .number) 0))) 1 0
+      none e z =
+          let q : eqb (r .reply .number) 0 ≡ false = ne-eqb _ _ z in
+          let y : _≡_ {A = ℕ} (pick (both a (both b (eqb (r .reply .number) 0))) 1 0) 0 = rw q (pick-false _ _ _ (both-false-last a b)) in
+          omega arith
+
+      by : Dec (r .reply .number ≡ 0) → Dec (r .reply .number ≡ 9) → r .reply .settings .«nodes_taken» ≡ x .settings .«nodes_taken» + pick (both a (both b (eqb (r .reply .number) 0))) 1 0
+      by (yes z) d =
+          let q : eqb (r .reply .number) 0 ≡ true = eq-eqb _ _ z in
+          let y : _≡_ {A = ℕ} (pick (both a (both b (eqb (r .reply .number) 0))) 1 0) (pick (both a b) 1 0) = rw (q, both-true-right) refl in
+          let e : r .reply .settings .«nodes_taken» ≡ x .settings .«nodes_taken» + pick (both a b) 1 0 = ap (λ u. u .reply .settings .«nodes_taken») (done-number w (x .settings) i (x .areas) z) ∙ act-counts w (x .settings) (recordOf w (x .areas) i) (memoryOf (x .areas)) in
+          omega arith
+      by (no z) (yes y) = none (ap (λ u. u .reply .settings .«nodes_taken») (nine-is-full w (x .settings) i (x .areas) y)) z
+      by (no z) (no y) = none (ap (λ u. u .reply .settings .«nodes_taken») (turn-refused w (x .settings) i (x .areas) z y)) z
+
+  start-counts : (i row column : ℕ) → start w (x .settings) i row column (x .areas) .reply .settings .«nodes_taken» ≡ x .settings .«nodes_taken»
+  start-counts i row column = by (ℕ-discrete (start w (x .settings) i row column (x .areas) .reply .number) 0)
+    where
+      r : Result
+      r = start w (x .settings) i row column (x .areas)
+
+      by : Dec (r .reply .number ≡ 0) → r .reply .settings .«nodes_taken» ≡ x .settings .«nodes_taken»
+      by (yes z) = ap (λ u. u .reply .settings .«nodes_taken») (start-done w (x .settings) i row column (x .areas) z)
+      by (no z) = ap (λ u. u .settings .«nodes_taken») (refuses-start w (x .settings) i row column (x .areas) .unchanged z .1)
+
+  start-takes : (i row column : ℕ) → _≡_ {A = ℕ} (pick (takesNumber w (starts i row column) x) 1 0) 0
+  unfolding takesNumber pick
+  start-takes i row column = refl
+
+  -- one event
+  event-counts : (e : Event) → happens w e x .reply .settings .«nodes_taken» ≡ x .settings .«nodes_taken» + pick (takesNumber w e x) 1 0
+  unfolding happens
+  event-counts (starts i row column) = let a = start-counts i row column in let b = start-takes i row column in omega arith
+  event-counts (turns i) = turn-counts i
+
+-- a sequence
+pub sequence-counts : (w : ℕ) (es : List Event) (x : State) → stateAfter w es x .settings .«nodes_taken» ≡ x .settings .«nodes_taken» + numbersTaken w es x
+unfolding stateAfter numbersTaken
+sequence-counts w [] x = omega arith
+sequence-counts w (e ∷ es) x = let a = sequence-counts w es (after (happens w e x)) in let b = event-counts w x e in omega arith

@@ -1,0 +1,87 @@
+-- Put and Append: question 6 holds; done, the node is placed and the call ends "new"; failed, the cell is read again.
+-- Relies on a worker that searches and on the theory's placing of a node.
+use Prim.Native.Nat.{ℕ, suc, _-_}
+use mathlib.Core.Path.{_≡_, refl, sym, subst}
+use mathlib.Core.Bool.{true}
+use mathlib.Core.List.{[]}
+use native.Mathlib.Omega.{arith}
+use Rattle.words.proofs.Choice.{pick-both, both-true}
+use Rattle.settings.specs.declared.Settings.{Settings}
+use Rattle.areas.specs.Memory.{Memory, levelRef, nodeRef, cellAt, setCell}
+use Rattle.record.specs.declared.Kind.the-variants.{Read, Follow}
+use Rattle.record.specs.declared.Answer.the-variants.{New}
+use Rattle.record.specs.Layout.{Record}
+use Rattle.rules.specs.Heads.{ended}
+use Rattle.rules.specs.Steps.{step, expected}
+use Rattle.rules.specs.Searching as spec
+use Rattle.rules.specs.Acts.{actBy}
+use Rattle.rules.specs.Asked as asked
+use Rattle.trie.proofs.Digits.{digit}
+use Rattle.trie.proofs.Fresh.{fresh-keep}
+use Rattle.trie.proofs.Place.{place, place-grows}
+use Rattle.trie.proofs.Stand.{Pos, at-entry, at-node}
+use Rattle.trie.proofs.Search.{put, Local, puts, word, free, put-done}
+use Rattle.trie.proofs.Levels.{levels-stay}
+use Rattle.trie.proofs.Whole.{idle, Worker, is-searching, owner}
+use Rattle.trie.proofs.Turns as turns
+use Rattle.rules.proofs.Dims.{dims}
+use Rattle.rules.proofs.Words.{shows-cell}
+use Rattle.rules.proofs.Matches.{byPos, searchKind, rests}
+use Rattle.rules.proofs.Invariant.{WorldOf, At, TurnOk, ends-new}
+use Rattle.rules.proofs.SearchHolds.{node-owned, node-hand-ok}
+use Rattle.rules.proofs.Searcher.{Searcher, placeCell, picks-ok, stands-ok, place-cell, place-taken, here-reads, other-reads, goes-again}
+
+module _ {w : ℕ} {s₀ s : Settings} {m : Memory} {W : WorldOf w s₀} {ws : ℕ → Worker} {i : ℕ} {r : Record} {a : At w s₀ s m W ws i r} {H n : ℕ} where
+  -- the node in hand
+  in-hand : {x : Pos} → Searcher a (put H x n) H x → Local W (owner i) (ws i .key) (ws i .since) (put H x n) → ws i .node ≡ suc n
+  in-hand o (puts k c mine p t) = a .inv .each i .holds-node n .0 mine
+
+  pub put-asks : (x : Pos) → Searcher a (put H x n) H x → Local W (owner i) (ws i .key) (ws i .since) (put H x n) → asked.readsBy (searchKind (put H x n)) w s (r .head) (r .moves) m ≡ true
+  unfolding asked.readsBy asked.puts asked.appends
+  put-asks at-entry o l = both-true (picks-ok o) (node-hand-ok a (in-hand o l))
+  put-asks (at-node R C) o l = both-true (stands-ok o) (node-hand-ok a (in-hand o l))
+
+  -- done
+  put-new : {x : Pos} (o : Searcher a (put H x n) H x) (l : Local W (owner i) (ws i .key) (ws i .since) (put H x n)) → word W (ws i .key) H x ≡ levelRef H → TurnOk w s₀ W ws i (step (New n) s (ended 1 n 0 (r .head)) [] (setCell w m (placeCell w (r .head) (m .levels) x) (nodeRef n)))
+  unfolding ended
+  put-new {x} o l q =
+      let S = a .inv .structure in
+      let e = digit (dims w (s₀ .limit)) (ws i .key) (W .tree .depth H) in
+      let hand = in-hand o l in
+      let can = put-done S (a .inv .partition) (λ y. omega arith) (o .small) l q in
+      let E = place-grows S can in
+      let c = turns.does (turns.withNode (ws i) 0) idle in
+      record {
+        world = place W H e n;
+        worker = c;
+        table = record {
+          width = a .table .width;
+          ranges = a .table .ranges;
+          same = a .table .same;
+          shows = rw (place-cell o, free S (a .inv .partition) (o .search) q .last) (shows-cell (a .table .shows) _ (nodeRef n) (place-taken o));
+          nodes-fresh = fresh-keep (a .table .nodes-fresh) n 0 (node-owned a hand) (λ y. omega arith);
+          levels-fresh = a .table .levels-fresh;
+          nodes-le = a .table .nodes-le;
+          levels-le = a .table .levels-le;
+        };
+        inv = turns.put-turn (a .inv) i (is-searching (o .small) (o .since-le) l) hand q;
+        levels = levels-stay (a .levels) i (a .here) c E refl;
+        matches = record { pixel-is = a .matches .pixel-is; node-is = refl; level-is = a .matches .level-is; doing = rests refl refl (omega arith) };
+        rowing = ends-new can (pixel-of l) refl refl;
+      }
+    where
+      pixel-of : Local W (owner i) (ws i .key) (ws i .since) (put H x n) → W .pixel n ≡ ws i .key
+      pixel-of (puts k c mine p t) = p
+
+  exchanged : {x : Pos} (o : Searcher a (put H x n) H x) → Local W (owner i) (ws i .key) (ws i .since) (put H x n) → TurnOk w s₀ W ws i (spec.placed w (byPos Read Follow x) s (r .head) (placeCell w (r .head) (m .levels) x) m)
+  unfolding spec.placed
+  exchanged {x} o l =
+      let h : r .head .«held_node» - 1 ≡ n = omega (arith, a .matches .node-is, in-hand o l) in
+      pick-both (TurnOk w s₀ W ws i) (expected (r .head) (cellAt w m (placeCell w (r .head) (m .levels) x)))
+      (λ e. subst (λ k. TurnOk w s₀ W ws i (step (New k) s (ended 1 k 0 (r .head)) [] (setCell w m (placeCell w (r .head) (m .levels) x) (nodeRef k)))) (sym h) (put-new o l (here-reads o e)))
+      (λ e. goes-again o (other-reads o e))
+
+  pub put-turn : (x : Pos) (o : Searcher a (put H x n) H x) → Local W (owner i) (ws i .key) (ws i .since) (put H x n) → TurnOk w s₀ W ws i (actBy (searchKind (put H x n)) w s (r .head) (r .moves) m)
+  unfolding actBy spec.put spec.append
+  put-turn at-entry o l = exchanged o l
+  put-turn (at-node R C) o l = exchanged o l

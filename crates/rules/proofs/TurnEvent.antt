@@ -1,0 +1,192 @@
+-- The event of a turn: what it leaves holds along the sequence; it is not answered 6, and "full" only where every node is taken.
+-- Relies on that every kind of turn keeps the invariant, on demand 1 of a turn, and on the row over a turn.
+use Prim.Native.Nat.{ℕ, zero, suc, _≤_, _<_}
+use mathlib.Core.Path.{_≡_, refl, sym, ap, _∙_}
+use mathlib.Core.Logic.{_≢_}
+use mathlib.Core.Bool.{Bool, true, false, not}
+use mathlib.Core.List.{List, [], _∷_, _++_, append-nil}
+use native.Mathlib.Decide.{ℕ-discrete}
+use native.Mathlib.Omega.{arith}
+use lib.Dec.{eqb}
+use borrow.Author.Tests.{eq-eqb, ne-eqb, ltb-true, not-true}
+use Rattle.words.specs.Choice.{asks, firstNo}
+use Rattle.settings.specs.declared.Settings.{Settings}
+use Rattle.areas.specs.Memory.{none}
+use Rattle.record.specs.declared.Answer.{Answer}
+use Rattle.record.specs.declared.Answer.the-variants.{Nothing, New, Found, Full, Open}
+use Rattle.record.specs.Layout.{Record, store}
+use Rattle.rules.specs.Heads.{ended}
+use Rattle.rules.specs.Acts.{act}
+use Rattle.rules.specs.Asked.{question4, question6, question7, question8, question9}
+use Rattle.rules.specs.Operations.{Result, refused, recordOf, memoryOf, taken, full, fullRecord, turn, turnQuestions}
+use Rattle.rules.specs.Lists.{State, state, after}
+use Rattle.rules.specs.Calls.{Call, Opened, Event, turns, happens, opens, ends, endsWith}
+use Rattle.rules.specs.Demands.{EventOk}
+use Rattle.trie.proofs.Update.{upd}
+use Rattle.trie.proofs.Evolve.{grows-refl}
+use Rattle.trie.proofs.Levels.{levels-stay}
+use Rattle.trie.proofs.Whole.{idle, Worker, is-idle, stay-step}
+use Rattle.rules.proofs.Questions.{first-later, first-yes, last-no}
+use Rattle.rules.proofs.OneTurn.{turn-number, done-number, nine-is-full, turn-refused, turn-leaves}
+use Rattle.rules.proofs.Invariant.{WorldOf, at, TurnOk, Rowing, goes, ends-new, ends-found}
+use Rattle.rules.proofs.Matches.{rests}
+use Rattle.rules.proofs.Idle.{busy-acts}
+use Rattle.rules.proofs.Asking.{asks-ok, turn-ok}
+use Rattle.rules.proofs.Ending.{NoneLeft, none-left, full-unseen}
+use Rattle.rules.proofs.Stored.{fine-after}
+use Rattle.rules.proofs.RowTurns.{row-turn, row-full-turn}
+use Rattle.rules.proofs.Along.{Along, along-waits, top-stays, newest-stays}
+
+ends-of : (i k : ℕ) (os : List Opened) (r : Result) → ends (turns i) k (r .reply) os ≡ endsWith i k (r .reply .answer) os
+unfolding ends
+ends-of i k os r = refl
+
+opens-none : (i k : ℕ) (os : List Opened) (r : Result) → opens (turns i) k (r .reply) os ≡ os
+unfolding opens
+opens-none i k os r = refl
+
+nothing-ends : (i k : ℕ) (os : List Opened) → endsWith i k Nothing os ≡ []
+unfolding endsWith
+nothing-ends i k os = refl
+
+none-six : firstNo [] ≢ 6
+unfolding firstNo
+none-six z = omega arith
+
+-- the worker is below workers and has a call open
+pub record Open8 (w : ℕ) (x : State) (i : ℕ) : Type 0 where
+  pub below : question4 (x .settings) i ≡ true
+  pub busy : question7 (recordOf w (x .areas) i) ≡ false
+
+-- questions 4 and 8 of a turn whose number is n, other than 1 to 4, 6 and 8; and what question 9 then gives
+turn-open : (w : ℕ) (x : State) (i n : ℕ) → 1 ≢ n → 2 ≢ n → 3 ≢ n → 4 ≢ n → 6 ≢ n → 8 ≢ n → turn w (x .settings) i (x .areas) .reply .number ≡ n → Open8 w x i × (firstNo (asks 9 (question9 (x .settings) (recordOf w (x .areas) i)) ∷ []) ≡ n)
+unfolding turnQuestions question8
+turn-open w x i n h₁ h₂ h₃ h₄ h₆ h₈ e =
+    let (y₁, e₁) = first-later 1 _ _ h₁ (sym (turn-number w (x .settings) i (x .areas)) ∙ e) in
+    let (y₂, e₂) = first-later 2 _ _ h₂ e₁ in
+    let (y₃, e₃) = first-later 3 _ _ h₃ e₂ in
+    let (y₄, e₄) = first-later 4 _ _ h₄ e₃ in
+    let (y₆, e₆) = first-later 6 _ _ h₆ e₄ in
+    let (y₈, e₈) = first-later 8 _ _ h₈ e₆ in
+    (record { below = y₄; busy = not-true _ y₈ }, e₈)
+
+module _ {w : ℕ} {s₀ : Settings} {x : State} {k : ℕ} {os : List Opened} {cs : List Call} (a : Along w s₀ x k os cs) (i : ℕ) where
+  below : question4 (x .settings) i ≡ true → i < s₀ .workers
+  unfolding question4
+  below q = let l : i < x .settings .workers = ltb-true _ _ q in rw (a .fine .table .same .workers-is) at l
+
+  turn-not-6 : turn w (x .settings) i (x .areas) .reply .number ≢ 6
+  unfolding turnQuestions
+  turn-not-6 e =
+      let (y₁, e₁) = first-later 1 _ _ (λ z. omega arith) (sym (turn-number w (x .settings) i (x .areas)) ∙ e) in
+      let (y₂, e₂) = first-later 2 _ _ (λ z. omega arith) e₁ in
+      let (y₃, e₃) = first-later 3 _ _ (λ z. omega arith) e₂ in
+      let (y₄, e₄) = first-later 4 _ _ (λ z. omega arith) e₃ in
+      let f = asks-ok (at (a .fine) i (below y₄)) in
+      let (y₈, e₈) = first-later 8 _ _ (λ z. omega arith) (sym (first-yes 6 _ f) ∙ e₄) in
+      let (y₉, e₉) = first-later 9 _ _ (λ z. omega arith) e₈ in
+      none-six e₉
+
+  -- the turn is taken
+  turn-carried : turn w (x .settings) i (x .areas) .reply .number ≡ 0 → Along w s₀ (after (turn w (x .settings) i (x .areas))) (suc k) os (cs ++ endsWith i k (turn w (x .settings) i (x .areas) .reply .answer) os)
+  unfolding taken
+  turn-carried z =
+      let (o, e) = turn-open w x i 0 (λ y. omega arith) (λ y. omega arith) (λ y. omega arith) (λ y. omega arith) (λ y. omega arith) (λ y. omega arith) z in
+      let F = a .fine in
+      let h = below (o .below) in
+      let q = first-later 9 _ _ (λ y. omega arith) e .0 in
+      let K = turn-ok (at F i h) (o .busy) q in
+      let b = busy-acts (F .records i h) (o .busy) in
+      rw (done-number w (x .settings) i (x .areas) z, taken)
+      (record {
+        world = K .world;
+        workers = upd (a .workers) i (K .worker);
+        starts = a .starts;
+        fine = fine-after F i h (K .table) (K .inv) (K .levels) (K .matches);
+        top = top-stays F (a .top) (K .rowing);
+        rows = row-turn (F .inv .structure) (F .inv .partition) (a .rows .rowed) (a .rows .perm) i b (a .opened i h b) (K .rowing);
+        opened = newest-stays s₀ (a .workers) (a .opened) i (K .worker) (λ y. (b, same-key (K .rowing) y));
+      })
+    where
+      same-key : {W W′ : WorldOf w s₀} {c c′ : Worker} {v : Answer} → Rowing W W′ c c′ v → c′ .act ≢ idle → c′ .key ≡ c .key
+      same-key (goes E b n e y) z = y
+      same-key (ends-new k q e y) z = absurd (z y)
+      same-key (ends-found k q e y) z = absurd (z y)
+
+  -- the call ends "full"
+  turn-full : turn w (x .settings) i (x .areas) .reply .number ≡ 9 → Along w s₀ (after (turn w (x .settings) i (x .areas))) (suc k) os (cs ++ endsWith i k (turn w (x .settings) i (x .areas) .reply .answer) os)
+  unfolding full fullRecord ended
+  turn-full z =
+      let (o, e) = turn-open w x i 9 (λ y. omega arith) (λ y. omega arith) (λ y. omega arith) (λ y. omega arith) (λ y. omega arith) (λ y. omega arith) z in
+      let F = a .fine in
+      let h = below (o .below) in
+      let N = none-left (x .settings) (recordOf w (x .areas) i) (last-no 9 _ (λ y. omega arith) e) in
+      let b = busy-acts (F .records i h) (o .busy) in
+      let M = F .records i h in
+      let c : Worker = record { key = a .workers i .key; since = a .workers i .since; node = a .workers i .node; level = a .workers i .level; act = idle } in
+      let I = stay-step (F .inv) i c (record { acts = is-idle; holds-node = F .inv .each i .holds-node; holds-level = F .inv .each i .holds-level }) in
+      rw (nine-is-full w (x .settings) i (x .areas) z, full)
+      (record {
+        world = a .world;
+        workers = upd (a .workers) i c;
+        starts = a .starts;
+        fine = fine-after F i h (F .table) I (levels-stay (F .levels) i h c (grows-refl (a .world)) refl) (record { pixel-is = M .pixel-is; node-is = M .node-is; level-is = M .level-is; doing = rests refl refl (omega arith) });
+        top = a .top;
+        rows = row-full-turn (F .inv .structure) (F .inv .partition) (a .rows .rowed) (a .rows .perm) i b (a .opened i h b) c refl (full-unseen (at F i h) (N .taking));
+        opened = newest-stays s₀ (a .workers) (a .opened) i c (λ y. absurd (y refl));
+      })
+
+  -- any other number changes nothing and ends nothing
+  turn-waits : turn w (x .settings) i (x .areas) .reply .number ≢ 0 → turn w (x .settings) i (x .areas) .reply .number ≢ 9 → Along w s₀ (after (turn w (x .settings) i (x .areas))) (suc k) os (cs ++ endsWith i k (turn w (x .settings) i (x .areas) .reply .answer) os)
+  turn-waits h g =
+      let e : turn w (x .settings) i (x .areas) .reply .answer ≡ Nothing = ap (λ y. y .reply .answer) (turn-refused w (x .settings) i (x .areas) h g) in
+      rw (turn-leaves w (x .settings) i (x .areas) h g, e, nothing-ends i k os) (along-waits a)
+
+  pub turn-along : Along w s₀ (after (turn w (x .settings) i (x .areas))) (suc k) (opens (turns i) k (turn w (x .settings) i (x .areas) .reply) os) (cs ++ ends (turns i) k (turn w (x .settings) i (x .areas) .reply) os)
+  turn-along = rw (opens-none i k os (turn w (x .settings) i (x .areas)), ends-of i k os (turn w (x .settings) i (x .areas))) (by (ℕ-discrete (turn w (x .settings) i (x .areas) .reply .number) 0) (ℕ-discrete (turn w (x .settings) i (x .areas) .reply .number) 9))
+    where
+      r : Result
+      r = turn w (x .settings) i (x .areas)
+
+      by : Dec (r .reply .number ≡ 0) → Dec (r .reply .number ≡ 9) → Along w s₀ (after r) (suc k) os (cs ++ endsWith i k (r .reply .answer) os)
+      by (yes z) d = turn-carried z
+      by (no z) (yes y) = turn-full y
+      by (no z) (no y) = turn-waits z y
+
+  -- a carried out turn is not answered "full", and a refusal is only by 9
+  full-nine : turn w (x .settings) i (x .areas) .reply .answer ≡ Full → turn w (x .settings) i (x .areas) .reply .number ≡ 9
+  unfolding taken
+  full-nine f = by (ℕ-discrete (turn w (x .settings) i (x .areas) .reply .number) 0) (ℕ-discrete (turn w (x .settings) i (x .areas) .reply .number) 9)
+    where
+      r : Result
+      r = turn w (x .settings) i (x .areas)
+
+      not-full : {W W′ : WorldOf w s₀} {c c′ : Worker} {v : Answer} → Rowing W W′ c c′ v → v ≡ Full → ⊥
+      not-full (goes E b n e y) q = let z : _≡_ {A = ℕ} 0 1 = cc in omega arith
+      not-full (ends-new k p e y) q = let z : _≡_ {A = ℕ} 0 1 = cc in omega arith
+      not-full (ends-found k p e y) q = let z : _≡_ {A = ℕ} 0 1 = cc in omega arith
+
+      by : Dec (r .reply .number ≡ 0) → Dec (r .reply .number ≡ 9) → r .reply .number ≡ 9
+      by (yes z) d =
+          let (o, e) = turn-open w x i 0 (λ y. omega arith) (λ y. omega arith) (λ y. omega arith) (λ y. omega arith) (λ y. omega arith) (λ y. omega arith) z in
+          let K = turn-ok (at (a .fine) i (below (o .below))) (o .busy) (first-later 9 _ _ (λ y. omega arith) e .0) in
+          absurd (not-full (K .rowing) (sym (ap (λ y. y .reply .answer) (done-number w (x .settings) i (x .areas) z)) ∙ f))
+      by (no z) (yes y) = y
+      by (no z) (no y) = absurd (nothing-full (sym (ap (λ u. u .reply .answer) (turn-refused w (x .settings) i (x .areas) z y)) ∙ f))
+        where
+          nothing-full : Nothing ≡ Full → ⊥
+          nothing-full q = let t : _≡_ {A = ℕ} 0 1 = cc in omega arith
+
+  pub turn-event : EventOk w (turns i) x
+  unfolding happens full
+  turn-event =
+      record {
+        full-taken = λ f.
+            let z = full-nine f in
+            let (o, e) = turn-open w x i 9 (λ y. omega arith) (λ y. omega arith) (λ y. omega arith) (λ y. omega arith) (λ y. omega arith) (λ y. omega arith) z in
+            let N = none-left (x .settings) (recordOf w (x .areas) i) (last-no 9 _ (λ y. omega arith) e) in
+            let same : x .settings .nodes ≡ s₀ .nodes = a .fine .table .same .nodes-is in
+            let l : x .settings .«nodes_taken» ≤ s₀ .nodes = a .fine .table .nodes-le in
+            rw (nine-is-full w (x .settings) i (x .areas) z, full) (omega (arith, N .all-taken));
+        never-6 = turn-not-6;
+      }

@@ -1,0 +1,136 @@
+-- What a turn of another worker may have done, seen by one worker, and what it leaves true for that worker.
+-- Relies on Digits, Update, Lists, Chain, Tree, Read and World.
+use mathlib.Core.Path.{_≡_, refl, sym, ap, _∙_}
+use mathlib.Core.Logic.{_≢_, _⊎_, inl, inr}
+use mathlib.Core.List.{List, [], _∷_, _++_, append-assoc, append-nil, List·Memᴰ·append-cases, Memᴰ·append-left, Memᴰ·append-right, List·Memᴰ·head}
+use Prim.Native.Nat.{ℕ, zero, suc, _+_, _*_, _≤_, _<_}
+use native.Mathlib.Decide.{ℕ-discrete}
+use native.Mathlib.Omega.{arith}
+use lib.ListN.{length}
+use Rattle.trie.proofs.Digits.{Dims, top, digit, digit-lt, top-suc, digits-split}
+use Rattle.trie.proofs.Update.{Cell, ent, nxt}
+use Rattle.trie.proofs.Lists.{_∈_, NoDup, Cut, kept, went, cut-append}
+use Rattle.trie.proofs.Chain.{levelRef, nodeRef, endCell}
+use Rattle.trie.proofs.Tree.{Tree, Published, TreeOk, Inside, inside-mono, OnPath, deepest, one-level}
+use Rattle.trie.proofs.Read.{home-path}
+use Rattle.trie.proofs.World.{World, Placed, lastCell, end, NodeInside, Homed, Structure, Partition, Deep, Walk, along, gone, Other}
+
+-- How a chain may have changed: not; longer while open; shorter by nodes that went into the child
+pub data Changed {δ : Dims} (w w′ : World δ) (g e : ℕ) : Type 0 where
+  same : w′ .chain g e ≡ w .chain g e → Changed w w′ g e
+  longer : (more : List ℕ) → w .tree .into g e ≡ 0 → Published (w .tree) g → w′ .chain g e ≡ w .chain g e ++ more → Changed w w′ g e
+  shorter : (left : List ℕ) → w .tree .into g e ≢ 0 → w .chain g e ≡ w′ .chain g e ++ left → ((n : ℕ) → n ∈ left → NodeInside w′ (w .tree .into g e) n) → Changed w w′ g e
+
+-- What every effect leaves true for everybody, the worker that makes it included
+pub record Grows {δ : Dims} (w w′ : World δ) : Type 0 where
+  pub published : (g : ℕ) → Published (w .tree) g → Published (w′ .tree) g
+  pub prev-is : (g : ℕ) → Published (w .tree) g → w′ .tree .prev g ≡ w .tree .prev g
+  pub depth-is : (g : ℕ) → Published (w .tree) g → w′ .tree .depth g ≡ w .tree .depth g
+  pub pfx-is : (g : ℕ) → Published (w .tree) g → w′ .tree .pfx g ≡ w .tree .pfx g
+  pub into-is : (g e : ℕ) → w .tree .into g e ≢ 0 → w′ .tree .into g e ≡ w .tree .into g e
+  pub pixel-is : (n : ℕ) → Placed w n → w′ .pixel n ≡ w .pixel n
+  pub placed-stays : (n : ℕ) → Placed w n → Placed w′ n
+  pub inside-stays : (c n : ℕ) → NodeInside w c n → NodeInside w′ c n
+  pub changed : (g e : ℕ) → Changed w w′ g e
+  pub book-grows : (more : List ℕ) × (w′ .book ≡ w .book ++ more)
+
+-- What the effects of the others leave besides to worker v (its number + 2): what it holds and the chains that it moves
+pub record Spares {δ : Dims} (v : ℕ) (w w′ : World δ) : Type 0 where
+  -- the node and the level that v holds
+  pub my-node : (n : ℕ) → w .nodeOwner n ≡ v → (w′ .nodeOwner n ≡ v) × (w′ .pixel n ≡ w .pixel n) × (w′ .cell (nxt n) ≡ w .cell (nxt n))
+  pub my-level : (g : ℕ) → w .tree .levelOwner g ≡ v → (w′ .tree .levelOwner g ≡ v) × (w′ .tree .prev g ≡ w .tree .prev g) × (w′ .tree .depth g ≡ w .tree .depth g) × (w′ .tree .pfx g ≡ w .tree .pfx g) × ((e : ℕ) → w′ .cell (ent g e) ≡ w .cell (ent g e))
+  -- the chain that v moves
+  pub my-move : (g e : ℕ) → w .tree .into g e ≢ 0 → w .mover (w .tree .into g e) ≡ v → (w′ .mover (w .tree .into g e) ≡ v) × (w′ .chain g e ≡ w .chain g e) × (w′ .cell (lastCell w g e) ≡ w .cell (lastCell w g e))
+
+-- an event that changes no word
+pub grows-refl : {δ : Dims} (w : World δ) → Grows w w
+grows-refl w =
+    record {
+      published = λ g p. p;
+      prev-is = λ g p. refl;
+      depth-is = λ g p. refl;
+      pfx-is = λ g p. refl;
+      into-is = λ g e z. refl;
+      pixel-is = λ n p. refl;
+      placed-stays = λ n p. p;
+      inside-stays = λ c n i. i;
+      changed = λ g e. same refl;
+      book-grows = ([], sym (append-nil (w .book)));
+    }
+
+module _ {δ : Dims} {w w′ : World δ} (E : Grows w w′) where
+  pub path-stays : {K h : ℕ} → OnPath (w .tree) K h → OnPath (w′ .tree) K h
+  path-stays {K} {h} o = record { pub-at = E .published h (o .pub-at); lies = E .pfx-is h (o .pub-at) ∙ o .lies ∙ ap (top δ K) (sym (E .depth-is h (o .pub-at))) }
+
+  pub level-stays : {c t : ℕ} → Inside (w .tree) c t → Inside (w′ .tree) c t
+  level-stays i = inside-mono (E .published) (E .prev-is) i
+
+  pub closed-stays : {g e : ℕ} → w .tree .into g e ≢ 0 → w′ .tree .into g e ≢ 0
+  closed-stays {g} {e} z q = z (sym (E .into-is g e z) ∙ q)
+
+  -- a closed chain gets no node
+  pub closed-chain : {g e n : ℕ} → w .tree .into g e ≢ 0 → n ∈ w′ .chain g e → n ∈ w .chain g e
+  closed-chain {g} {e} {n} z i = by (E .changed g e)
+    where
+      by : Changed w w′ g e → n ∈ w .chain g e
+      by (same p) = rw p at i
+      by (longer more q l p) = absurd (z q)
+      by (shorter left q p f) = rw p (Memᴰ·append-left left i)
+
+  pub walk-stays : {P P′ : ℕ → Type 0} (m : (n : ℕ) → Placed w n → P n → P′ n) (S : Structure w) {H e R C : ℕ} → Walk w P H e R C → Walk w′ P′ H e R C
+  walk-stays {P} {P′} m S {H} {e} {R} {C} (gone z i f) =
+      gone (closed-stays z) (rw (E .into-is H e z) (E .inside-stays (w .tree .into H e) R i)) (λ n j. let k = closed-chain z j in m n (S .homed n H e k .placed) (f n k))
+  walk-stays {P} {P′} m S {H} {e} {R} {C} (along pre post c k f r) = by (E .changed H e)
+    where
+      there : (n : ℕ) → n ∈ pre ++ R ∷ post → Placed w n
+      there n i = S .homed n H e (rw c i) .placed
+
+      f′ : (n : ℕ) → n ∈ pre → P′ n
+      f′ n i = m n (there n (Memᴰ·append-left (R ∷ post) i)) (f n i)
+
+      r′ : P′ R
+      r′ = m R (there R (Memᴰ·append-right pre (List·Memᴰ·head refl))) r
+
+      by : Changed w w′ H e → Walk w′ P′ H e R C
+      by (same p) = along pre post (p ∙ c) k f′ r′
+      by (longer more q l p) = along pre (post ++ more) (p ∙ rw (c, append-assoc) refl) k f′ r′
+      by (shorter left z p g) = cut (cut-append pre R post (w′ .chain H e) left (sym c ∙ p))
+        where
+          cut : Cut pre R (w′ .chain H e) left → Walk w′ P′ H e R C
+          cut (kept rest q) = along pre rest q k f′ r′
+          cut (went i h) = gone (closed-stays z) (rw (E .into-is H e z) (g R i)) (λ n j. f′ n (h n j))
+
+  pub other-stays : {K : ℕ} (n : ℕ) → Placed w n → Other w K n → Other w′ K n
+  other-stays n p q = rw (E .pixel-is n p) q
+
+  -- K is placed no higher than h: what is placed or moved goes to an open chain, so to the deepest level on its path
+  pub deep-stays : (S : Structure w) (S′ : Structure w′) {K h : ℕ} → OnPath (w .tree) K h → Deep w K h → Deep w′ K h
+  unfolding Deep
+  deep-stays S S′ {K} {h} o d n p q = by (E .changed g e)
+    where
+      g : ℕ
+      g = S′ .in-chain n p .0
+
+      e : ℕ
+      e = S′ .in-chain n p .1
+
+      i : n ∈ w′ .chain g e
+      i = S′ .in-chain n p .2
+
+      old : n ∈ w .chain g e → w′ .tree .depth h ≤ w′ .tree .depth (w′ .home n)
+      old j =
+          let a = S .homed n g e j in
+          let k = d n (a .placed) (sym (E .pixel-is n (a .placed)) ∙ q) in
+          rw (S′ .homed n g e i .home-is, E .depth-is h (o .pub-at), E .depth-is g (a .level)) (rw (a .home-is) at k)
+
+      new : w .tree .into g e ≡ 0 → Published (w .tree) g → w′ .tree .depth h ≤ w′ .tree .depth (w′ .home n)
+      new z l =
+          let (u, x) = home-path S′ i in
+          let at : OnPath (w .tree) K g = record { pub-at = l; lies = sym (E .pfx-is g l) ∙ u .lies ∙ rw (q, E .depth-is g l) refl } in
+          let idle = rw (x, q, E .depth-is g l) at z in
+          rw (S′ .homed n g e i .home-is, E .depth-is h (o .pub-at), E .depth-is g l) (deepest (S .tree-ok) at idle o)
+
+      by : Changed w w′ g e → w′ .tree .depth h ≤ w′ .tree .depth (w′ .home n)
+      by (same p) = old (rw p at i)
+      by (longer more z l p) = new z l
+      by (shorter left z p f) = old (rw p (Memᴰ·append-left left i))

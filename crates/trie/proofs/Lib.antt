@@ -1,0 +1,31 @@
+-- The trie over an abstract memory: digits, cells, levels, chains, the invariant, and that every effect of a turn keeps it.
+-- Relies on the language's library alone.
+pub mod Digits
+pub mod Lists
+pub mod Update
+pub mod Tree
+pub mod Chain
+pub mod World
+pub mod Read
+pub mod Grow
+pub mod Frame
+pub mod Evolve
+pub mod Stand
+pub mod Place
+pub mod MoveOne
+pub mod Close
+pub mod Redirect
+pub mod TakeNode
+pub mod TakeLevel
+pub mod Count
+pub mod Sum
+pub mod Search
+pub mod Move
+pub mod MoveTurns
+pub mod Reached
+pub mod Whole
+pub mod Levels
+pub mod Turns
+pub mod Opening
+pub mod Fresh
+pub mod MoveSteps

@@ -1,0 +1,117 @@
+-- Effects E5 and E7: the end of a chain that is moving is pointed elsewhere inside the child (SetNext), or, where the chain is empty, to the child (MoveEnd).
+-- Relies on Digits, Update, Lists, Chain, Tree, World, Evolve and Frame.
+use mathlib.Core.Path.{_≡_, refl, sym, ap, _∙_}
+use mathlib.Core.Logic.{_≢_, _⊎_, inl, inr}
+use mathlib.Core.List.{List, [], _∷_, _++_, append-nil}
+use Prim.Native.Nat.{ℕ, zero, suc, _+_, _*_, _≤_, _<_}
+use native.Mathlib.Omega.{arith}
+use Rattle.trie.proofs.Digits.{Dims}
+use Rattle.trie.proofs.Update.{Cell, ent, nxt, updC, updC-same, updC-other, same-entry?}
+use Rattle.trie.proofs.Lists.{_∈_}
+use Rattle.trie.proofs.Chain.{levelRef, nodeRef, ent-nxt, endCell, links-end}
+use Rattle.trie.proofs.Tree.{Tree, Published, Inside}
+use Rattle.trie.proofs.World.{World, Placed, lastCell, end, NodeInside, RefInside, to-level, to-node, Homed, SlotAt, SlotOk, Structure, Partition}
+use Rattle.trie.proofs.Evolve.{Grows, Spares, Changed, same}
+use Rattle.trie.proofs.Frame.{one-slot, ends-apart, entry-away, node-away, held-away, level-away, slot-frame}
+
+-- the end of the chain of (H, e) becomes r; `mover` after it is mv
+abbrev pub redirect : {δ : Dims} → World δ → ℕ → ℕ → ℕ → (ℕ → ℕ) → World δ
+redirect w H e r mv =
+    record {
+      tree = w .tree;
+      pixel = w .pixel;
+      cell = updC (w .cell) (lastCell w H e) r;
+      nodeOwner = w .nodeOwner;
+      chain = w .chain;
+      home = w .home;
+      mover = mv;
+      book = w .book;
+    }
+
+pub record CanRedirect {δ : Dims} (w : World δ) (H e r : ℕ) : Type 0 where
+  pub level : Published (w .tree) H
+  pub at : e < δ .base
+  pub closed : w .tree .into H e ≢ 0
+  pub inside : RefInside w (w .tree .into H e) r
+  -- an empty chain's entry leads to a node or straight to the child
+  pub straight : (t : ℕ) → w .chain H e ≡ [] → r ≡ levelRef t → t ≡ w .tree .into H e
+
+module _ {δ : Dims} {w : World δ} (S : Structure w) {H e r : ℕ} (k : CanRedirect w H e r) (mv : ℕ → ℕ) where
+  abbrev after : World δ
+  after = redirect w H e r mv
+
+  inside-stays : {c m : ℕ} → NodeInside w c m → NodeInside after c m
+  inside-stays i = record { placed = i .placed; inside = i .inside }
+
+  ref-stays : (c r : ℕ) → RefInside w c r → RefInside after c r
+  ref-stays c r (to-level t p i) = to-level t p i
+  ref-stays c r (to-node m p i) = to-node m p (inside-stays i)
+
+  slot-here : SlotOk after H e
+  slot-here =
+      let s = S .slot H e (k .level) (k .at) in
+      let f = w .cell in
+      let x = lastCell w H e in
+      let at : after .cell x ≡ r = updC-same f x r in
+      record {
+        links = links-end f (ent H e) (w .chain H e) r (λ m i. ent-nxt) (S .once H e) (s .links);
+        short = s .short;
+        if-open = λ z. absurd (k .closed z);
+        if-closed = λ z. rw at (ref-stays _ _ (k .inside));
+        direct = λ t z c q. let y : x ≡ ent H e = rw c refl in k .straight t c (sym at ∙ ap (after .cell) y ∙ q);
+      }
+
+  slot-other : (g d : ℕ) → ¬ ((g ≡ H) × (d ≡ e)) → SlotOk w g d → SlotOk after g d
+  slot-other g d q s =
+      slot-frame (w .cell) (after .cell) (w .chain g d) g d refl
+      (updC-other (w .cell) (lastCell w H e) r (ent g d) (entry-away w q))
+      (λ m i. updC-other (w .cell) (lastCell w H e) r (nxt m) (node-away w (λ j. q (one-slot S i j))))
+      ref-stays s
+
+  homed′ : (m g d : ℕ) → m ∈ w .chain g d → Homed after m g d
+  homed′ m g d i = let h = S .homed m g d i in record { level = h .level; at = h .at; placed = h .placed; home-is = h .home-is; small = h .small; prefix = h .prefix }
+
+  pub redirect-structure : Structure after
+  redirect-structure =
+      record {
+        tree-ok = S .tree-ok;
+        homed = homed′;
+        in-chain = S .in-chain;
+        once = S .once;
+        slot = λ g d p l. by g d (S .slot g d p l) (same-entry? g d H e);
+      }
+    where
+      by : (g d : ℕ) → SlotOk w g d → Dec ((g ≡ H) × (d ≡ e)) → SlotOk after g d
+      by g d s (yes q) = rw (q .0, q .1) slot-here
+      by g d s (no q) = slot-other g d q s
+
+  pub redirect-partition : Partition w → Partition after
+  redirect-partition Q = record { noted = Q .noted; noted-placed = Q .noted-placed; noted-once = Q .noted-once; one-node = Q .one-node }
+
+  pub redirect-grows : Grows w after
+  redirect-grows =
+      record {
+        published = λ g p. p;
+        prev-is = λ g p. refl;
+        depth-is = λ g p. refl;
+        pfx-is = λ g p. refl;
+        into-is = λ g d p. refl;
+        pixel-is = λ m p. refl;
+        placed-stays = λ m p. p;
+        inside-stays = λ c m i. inside-stays i;
+        changed = λ g d. same refl;
+        book-grows = ([], sym (append-nil (w .book)));
+      }
+
+  -- a worker v that does not move this chain
+  pub redirect-spares : (v : ℕ) → v ≢ 0 → w .mover (w .tree .into H e) ≢ v → ((c : ℕ) → w .mover c ≡ v → mv c ≡ v) → Spares v w after
+  redirect-spares v z a mine =
+      let f = w .cell in
+      let x = lastCell w H e in
+      record {
+        my-node = λ m p. (p, refl, updC-other f x r (nxt m) (held-away S H e (λ q. z (sym p ∙ q))));
+        my-level = λ g p. (p, refl, refl, refl, λ d. updC-other f x r (ent g d) (level-away w H e (λ q. z (sym p ∙ q)) (k .level)));
+        my-move = λ g d c m.
+            let apart : ¬ ((g ≡ H) × (d ≡ e)) = λ q. a (rw (q .0, q .1) at m) in
+            (mine (w .tree .into g d) m, refl, updC-other f x r (lastCell w g d) (ends-apart S apart));
+      }

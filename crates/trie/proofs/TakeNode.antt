@@ -1,0 +1,114 @@
+-- Effect E1: a worker takes a node, a new one or its spare, and writes both words (Take, TakeTail).
+-- Relies on Digits, Update, Lists, Chain, Tree, World, Evolve and Frame.
+use mathlib.Core.Path.{_≡_, refl, sym, ap, _∙_}
+use mathlib.Core.Logic.{_≢_, _⊎_, inl, inr}
+use mathlib.Core.List.{List, [], _∷_, _++_, append-nil}
+use Prim.Native.Nat.{ℕ, zero, suc, _+_, _*_, _≤_, _<_, _^_}
+use native.Mathlib.Decide.{ℕ-discrete}
+use Rattle.trie.proofs.Digits.{Dims, top}
+use Rattle.trie.proofs.Update.{Cell, ent, nxt, upd, upd-same, upd-other, updC, updC-same, updC-other}
+use Rattle.trie.proofs.Lists.{_∈_}
+use Rattle.trie.proofs.Chain.{levelRef, nodeRef, nxt-inj, ent-nxt, endCell, EndOf, first, after, end-of}
+use Rattle.trie.proofs.Tree.{Tree, Published, Inside}
+use Rattle.trie.proofs.World.{World, Placed, lastCell, end, NodeInside, RefInside, to-level, to-node, Homed, SlotAt, SlotOk, Structure, Partition}
+use Rattle.trie.proofs.Evolve.{Grows, Spares, Changed, same}
+use Rattle.trie.proofs.Frame.{held-away, slot-frame}
+
+-- node n with pixel K and next r, held by v
+abbrev pub takeNode : {δ : Dims} → World δ → ℕ → ℕ → ℕ → ℕ → World δ
+takeNode w n K r v =
+    record {
+      tree = w .tree;
+      pixel = upd (w .pixel) n K;
+      cell = updC (w .cell) (nxt n) r;
+      nodeOwner = upd (w .nodeOwner) n v;
+      chain = w .chain;
+      home = w .home;
+      mover = w .mover;
+      book = w .book;
+    }
+
+module _ {δ : Dims} {w : World δ} (S : Structure w) {n : ℕ} (held : w .nodeOwner n ≢ 0) (K r v : ℕ) (holds : v ≢ 0) where
+  abbrev taken : World δ
+  taken = takeNode w n K r v
+
+  not-n : {m : ℕ} → Placed w m → m ≢ n
+  not-n p q = held (rw q at p)
+
+  placed-stays : {m : ℕ} → Placed w m → Placed taken m
+  placed-stays {m} p = upd-other (w .nodeOwner) n v m (not-n p) ∙ p
+
+  was : {m : ℕ} → Placed taken m → Placed w m
+  was {m} p = by (ℕ-discrete m n)
+    where
+      by : Dec (m ≡ n) → Placed w m
+      by (yes q) = absurd (holds (sym (upd-same (w .nodeOwner) n v) ∙ rw q at p))
+      by (no q) = sym (upd-other (w .nodeOwner) n v m q) ∙ p
+
+  pixel-stays : {m : ℕ} → Placed w m → taken .pixel m ≡ w .pixel m
+  pixel-stays {m} p = upd-other (w .pixel) n K m (not-n p)
+
+  inside-stays : {c m : ℕ} → NodeInside w c m → NodeInside taken c m
+  inside-stays i = record { placed = placed-stays (i .placed); inside = i .inside }
+
+  ref-stays : (c r : ℕ) → RefInside w c r → RefInside taken c r
+  ref-stays c r (to-level t p i) = to-level t p i
+  ref-stays c r (to-node m p i) = to-node m p (inside-stays i)
+
+  homed′ : (m g d : ℕ) → m ∈ w .chain g d → Homed taken m g d
+  homed′ m g d i =
+      let h = S .homed m g d i in
+      let e = pixel-stays (h .placed) in
+      record { level = h .level; at = h .at; placed = placed-stays (h .placed); home-is = h .home-is; small = rw e (h .small); prefix = rw e (h .prefix) }
+
+  cell-stays : {x : Cell} → x ≢ nxt n → taken .cell x ≡ w .cell x
+  cell-stays {x} q = updC-other (w .cell) (nxt n) r x q
+
+  pub take-structure : Structure taken
+  take-structure =
+      record {
+        tree-ok = S .tree-ok;
+        homed = homed′;
+        in-chain = λ m p. S .in-chain m (was p);
+        once = S .once;
+        slot = λ g d p l.
+            slot-frame (w .cell) (taken .cell) (w .chain g d) g d refl
+            (cell-stays ent-nxt)
+            (λ m i. cell-stays (λ q. not-n (S .homed m g d i .placed) (nxt-inj q)))
+            ref-stays (S .slot g d p l);
+      }
+
+  pub take-partition : Partition w → Partition taken
+  take-partition Q =
+      record {
+        noted = λ m p. Q .noted m (was p);
+        noted-placed = λ m i. placed-stays (Q .noted-placed m i);
+        noted-once = Q .noted-once;
+        one-node = λ a b p q e. Q .one-node a b (was p) (was q) (sym (pixel-stays (was p)) ∙ e ∙ pixel-stays (was q));
+      }
+
+  pub take-grows : Grows w taken
+  take-grows =
+      record {
+        published = λ g p. p;
+        prev-is = λ g p. refl;
+        depth-is = λ g p. refl;
+        pfx-is = λ g p. refl;
+        into-is = λ g d p. refl;
+        pixel-is = λ m p. pixel-stays p;
+        placed-stays = λ m p. placed-stays p;
+        inside-stays = λ c m i. inside-stays i;
+        changed = λ g d. same refl;
+        book-grows = ([], sym (append-nil (w .book)));
+      }
+
+  -- a worker u that did not hold n
+  pub take-spares : (u : ℕ) → w .nodeOwner n ≢ u → Spares u w taken
+  take-spares u a =
+      record {
+        my-node = λ m p.
+            let q : m ≢ n = λ q. a (ap (w .nodeOwner) (sym q) ∙ p) in
+            (upd-other (w .nodeOwner) n v m q ∙ p, upd-other (w .pixel) n K m q, cell-stays (λ y. q (nxt-inj y)));
+        my-level = λ g p. (p, refl, refl, refl, λ d. cell-stays ent-nxt);
+        my-move = λ g d c m. (m, refl, cell-stays (λ q. held-away S g d held (sym q)));
+      }

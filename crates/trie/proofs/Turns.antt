@@ -1,0 +1,194 @@
+-- The turns that write, each as a step from the whole invariant to the whole invariant. The turns that only read, and failed exchanges, are `stay-step`.
+-- Relies on Digits, Update, Chain, World, Evolve, Stand, Search, Move, MoveTurns, Place, TakeNode, TakeLevel, MoveOne, Redirect, Close and Whole.
+use mathlib.Core.Path.{_≡_, refl, sym, ap, _∙_}
+use mathlib.Core.Logic.{_≢_, _⊎_, inl, inr, _↔_, Iff·rfl, Iff·trans}
+use mathlib.Core.List.{List, [], _∷_, _++_}
+use Prim.Native.Nat.{ℕ, zero, suc, _+_, _*_, _^_, _≤_, _<_}
+use native.Mathlib.Decide.{ℕ-discrete}
+use native.Mathlib.Omega.{arith}
+use lib.ListN.{length}
+use Rattle.trie.proofs.Digits.{Dims, top, digit}
+use Rattle.trie.proofs.Update.{Cell, ent, nxt, upd, upd-same, upd-other}
+use Rattle.trie.proofs.Chain.{levelRef, nodeRef}
+use Rattle.trie.proofs.World.{World, Placed, Structure, Partition}
+use Rattle.trie.proofs.Evolve.{Grows, Spares}
+use Rattle.trie.proofs.Stand.{Pos, at-entry, at-node, passed}
+use Rattle.trie.proofs.Search.{Phase, peek, fetch, put, again, level, shut, Local, put-done, shut-done, fetch-put, level-shut, word}
+use Rattle.trie.proofs.Move.{Frame, edge, FrameOk, Step, gather, aim, set, finish, Moving, aims, sets, finishes, set-puts, set-shuts}
+use Rattle.trie.proofs.MoveTurns.{shut-moves, can-aim, aim-set, set-shut, shut-can, set-shut-moves, withNodes, AfterMove, emptied, next-one, put-can, put-moved, finish-can, Finished, search-on, set-into, finish-next}
+use Rattle.trie.proofs.Place.{place, CanPlace, place-structure, place-partition, place-grows, place-spares}
+use Rattle.trie.proofs.TakeNode.{takeNode, take-structure, take-partition, take-grows, take-spares}
+use Rattle.trie.proofs.TakeLevel.{takeLevel, level-structure, level-partition, level-grows, level-spares}
+use Rattle.trie.proofs.MoveOne.{moveOne, CanMove, move-structure, move-partition, move-grows, move-spares}
+use Rattle.trie.proofs.Redirect.{redirect, CanRedirect, redirect-structure, redirect-partition, redirect-grows, redirect-spares}
+use Rattle.trie.proofs.Close.{close, CanClose, close-structure, close-partition, close-grows, close-spares}
+use Rattle.trie.proofs.Whole.{Act, idle, searching, moving, Worker, ActOk, is-idle, is-searching, is-moving, WorkerOk, owner, Inv, SameOwns, inv-step, longer-book}
+
+-- an owner function changed at one number: who owned it, and who owns it now, are the only ones to notice
+owned-before : (f : ℕ → ℕ) (n u : ℕ) {v : ℕ} → u ≢ v → (m : ℕ) → upd f n u m ≡ v → f m ≡ v
+owned-before f n u {v} z m p = by (ℕ-discrete m n)
+  where
+    by : Dec (m ≡ n) → f m ≡ v
+    by (yes e) = absurd (z (sym (ap (upd f n u) e ∙ upd-same f n u) ∙ p))
+    by (no e) = sym (upd-other f n u m e) ∙ p
+
+-- v gives n away
+gives : (f : ℕ → ℕ) (n u : ℕ) {v : ℕ} → u ≢ v → (h : ℕ) → ((m : ℕ) → (f m ≡ v) ↔ (h ≡ suc m)) → h ≡ suc n → (m : ℕ) → (upd f n u m ≡ v) ↔ (_≡_ {A = ℕ} 0 (suc m))
+gives f n u {v} z h k e m = (λ p. absurd (by (ℕ-discrete m n) p), λ q. absurd (omega arith))
+  where
+    by : Dec (m ≡ n) → upd f n u m ≡ v → ⊥
+    by (yes y) p = z (sym (ap (upd f n u) y ∙ upd-same f n u) ∙ p)
+    by (no y) p = y (omega (arith, e, k m .0 (owned-before f n u z m p)))
+
+-- v takes n, having held nothing or n
+takes : (f : ℕ → ℕ) (n v h : ℕ) → ((m : ℕ) → (f m ≡ v) ↔ (h ≡ suc m)) → (h ≡ 0) ⊎ (h ≡ suc n) → (m : ℕ) → (upd f n v m ≡ v) ↔ (suc n ≡ suc m)
+takes f n v h k s m = (λ p. by (ℕ-discrete m n) p, λ q. let e : m ≡ n = omega arith in ap (upd f n v) e ∙ upd-same f n v)
+  where
+    no-other : h ≡ suc m → m ≢ n → (h ≡ 0) ⊎ (h ≡ suc n) → ⊥
+    no-other p y (inl z) = omega arith
+    no-other p y (inr z) = y (omega arith)
+
+    by : Dec (m ≡ n) → upd f n v m ≡ v → suc n ≡ suc m
+    by (yes y) p = ap suc (sym y)
+    by (no y) p = absurd (no-other (k m .0 (sym (upd-other f n v m y) ∙ p)) y s)
+
+-- a worker's record with other work, another node in hand, another level in hand
+abbrev pub does : Worker → Act → Worker
+does c a = record { key = c .key; since = c .since; node = c .node; level = c .level; act = a }
+
+abbrev pub withNode : Worker → ℕ → Worker
+withNode c n = record { key = c .key; since = c .since; node = n; level = c .level; act = c .act }
+
+abbrev pub withLevel : Worker → ℕ → Worker
+withLevel c g = record { key = c .key; since = c .since; node = c .node; level = g; act = c .act }
+
+-- The clause of the acting worker i is handed over at the kind of its turn: `I .each i .acts` has that type once `act` is known
+module _ {δ : Dims} {w : World δ} {workers : ℕ → Worker} (I : Inv w workers) (i : ℕ) where
+  S : Structure w
+  S = I .structure
+
+  Q : Partition w
+  Q = I .partition
+
+  K : ℕ
+  K = workers i .key
+
+  apart : {j : ℕ} → j ≢ i → owner i ≢ owner j
+  apart d p = d (omega arith)
+
+  abbrev Mine : Act → Type 0
+  Mine a = ActOk w (owner i) (workers i .key) (workers i .since) a
+
+  -- Put, Append done: the call ends "new"
+  pub put-turn : {H n : ℕ} {x : Pos} → Mine (searching (put H x n)) → workers i .node ≡ suc n → word w (workers i .key) H x ≡ levelRef H → Inv (place w H (digit δ (workers i .key) (w .tree .depth H)) n) (upd workers i (does (withNode (workers i) 0) idle))
+  put-turn {H} {n} {x} (is-searching small b l) hand q =
+      let can = put-done S Q (omega arith) small l q in
+      let mine = I .each i .holds-node n .1 hand in
+      inv-step I i (does (withNode (workers i) 0) idle) (place-grows S can) (place-structure S can) (place-partition S can Q)
+      (λ j d. (place-spares S can (owner j) (omega arith) (λ p. apart d (sym mine ∙ p)), record { same-node = owned-before (w .nodeOwner) n 0 (omega arith); same-level = λ g p. p }))
+      (record { acts = is-idle; holds-node = gives (w .nodeOwner) n 0 (omega arith) (workers i .node) (I .each i .holds-node) hand; holds-level = I .each i .holds-level })
+
+  -- Take, TakeTail: the spare node, or a new one
+  pub fetch-turn : {H n : ℕ} {x : Pos} → Mine (searching (fetch H x)) → w .nodeOwner n ≢ 0 → ((j : ℕ) → j ≢ i → w .nodeOwner n ≢ owner j) → (workers i .node ≡ 0) ⊎ (workers i .node ≡ suc n) → Inv (takeNode w n (workers i .key) (levelRef H) (owner i)) (upd workers i (does (withNode (workers i) (suc n)) (searching (put H x n))))
+  fetch-turn {H} {n} {x} (is-searching small b l) held others s =
+      let v : owner i ≢ 0 = omega arith in
+      let K = workers i .key in
+      inv-step I i (does (withNode (workers i) (suc n)) (searching (put H x n))) (take-grows S held K (levelRef H) (owner i) v) (take-structure S held K (levelRef H) (owner i) v) (take-partition S held K (levelRef H) (owner i) v Q)
+      (λ j d. (take-spares S held K (levelRef H) (owner i) v (owner j) (others j d), record { same-node = owned-before (w .nodeOwner) n (owner i) (apart d); same-level = λ g p. p }))
+      (record {
+        acts = is-searching small b (fetch-put S Q held v l);
+        holds-node = takes (w .nodeOwner) n (owner i) (workers i .node) (I .each i .holds-node) s;
+        holds-level = I .each i .holds-level;
+      })
+
+  -- Level and SetLevel: the spare level, or a new one; `now` is what the worker does after it
+  level-step : (G H d p : ℕ) (now : Act) (held : w .tree .levelOwner G ≢ 0) → ((j : ℕ) → j ≢ i → w .tree .levelOwner G ≢ owner j) → (workers i .level ≡ 0) ⊎ (workers i .level ≡ suc G) → ActOk (takeLevel w G H d p (owner i)) (owner i) (workers i .key) (workers i .since) now → Inv (takeLevel w G H d p (owner i)) (upd workers i (does (withLevel (workers i) (suc G)) now))
+  level-step G H d p now held others s k =
+      let v : owner i ≢ 0 = omega arith in
+      inv-step I i (does (withLevel (workers i) (suc G)) now) (level-grows S held H d p (owner i) v) (level-structure S held H d p (owner i) v) (level-partition S held H d p (owner i) v Q)
+      (λ j y. (level-spares S held H d p (owner i) v (owner j) (others j y), record { same-node = λ m q. q; same-level = owned-before (w .tree .levelOwner) G (owner i) (apart y) }))
+      (record { acts = k; holds-node = I .each i .holds-node; holds-level = takes (w .tree .levelOwner) G (owner i) (workers i .level) (I .each i .holds-level) s })
+
+  pub level-turn : {H G : ℕ} {x : Pos} → Mine (searching (level H x)) → (held : w .tree .levelOwner G ≢ 0) → ((j : ℕ) → j ≢ i → w .tree .levelOwner G ≢ owner j) → (workers i .level ≡ 0) ⊎ (workers i .level ≡ suc G) → Inv (takeLevel w G H (suc (w .tree .depth H)) (w .tree .pfx H * δ .base + digit δ (workers i .key) (w .tree .depth H)) (owner i)) (upd workers i (does (withLevel (workers i) (suc G)) (searching (shut H x G))))
+  level-turn {H} {G} {x} (is-searching small b l) held others s = level-step G H _ _ (searching (shut H x G)) held others s (is-searching small b (level-shut S Q held (omega arith) l))
+
+  pub set-level-turn : {f : Frame} {fs : List Frame} {N T G : ℕ} {x : Pos} → Mine (moving f fs (set N (level T x))) → (held : w .tree .levelOwner G ≢ 0) → ((j : ℕ) → j ≢ i → w .tree .levelOwner G ≢ owner j) → (workers i .level ≡ 0) ⊎ (workers i .level ≡ suc G) → Inv (takeLevel w G T (suc (w .tree .depth T)) (w .tree .pfx T * δ .base + digit δ (w .pixel N) (w .tree .depth T)) (owner i)) (upd workers i (does (withLevel (workers i) (suc G)) (moving f fs (set N (shut T x G)))))
+  set-level-turn {f} {fs} {N} {T} {G} {x} (is-moving small b m) held others s = level-step G T _ _ (moving f fs (set N (shut T x G))) held others s (is-moving small b (set-shut S Q held (omega arith) m))
+
+  -- Close and SetClose done
+  close-step : (H e G : ℕ) (now : Act) (can : CanClose w H e G) → workers i .level ≡ suc G → ActOk (close w H e G (owner i)) (owner i) (workers i .key) (workers i .since) now → Inv (close w H e G (owner i)) (upd workers i (does (withLevel (workers i) 0) now))
+  close-step H e G now can hand k =
+      let mine = I .each i .holds-level G .1 hand in
+      inv-step I i (does (withLevel (workers i) 0) now) (close-grows S can (owner i)) (close-structure S can (owner i)) (close-partition S can (owner i) Q)
+      (λ j d. (close-spares S can (owner i) (owner j) (omega arith) (λ p. apart d (sym mine ∙ p)), record { same-node = λ m p. p; same-level = owned-before (w .tree .levelOwner) G 0 (omega arith) }))
+      (record { acts = k; holds-node = I .each i .holds-node; holds-level = gives (w .tree .levelOwner) G 0 (omega arith) (workers i .level) (I .each i .holds-level) hand })
+
+  pub shut-turn : {H G : ℕ} {x : Pos} → Mine (searching (shut H x G)) → workers i .level ≡ suc G → word w (workers i .key) H x ≡ levelRef H → Inv (close w H (digit δ (workers i .key) (w .tree .depth H)) G (owner i)) (upd workers i (does (withLevel (workers i) 0) (moving (record { home = H; child = G; key = workers i .key; nodes = [] }) [] gather)))
+  shut-turn {H} {G} {x} (is-searching small b l) hand q = close-step H _ G _ (shut-done S Q (omega arith) l q .0) hand (is-moving small b (shut-moves S Q (omega arith) l q))
+
+  pub set-shut-turn : {f : Frame} {fs : List Frame} {N T M : ℕ} {x : Pos} → Mine (moving f fs (set N (shut T x M))) → workers i .level ≡ suc M → word w (w .pixel N) T x ≡ levelRef T → Inv (close w T (digit δ (w .pixel N) (w .tree .depth T)) M (owner i)) (upd workers i (does (withLevel (workers i) 0) (moving (record { home = T; child = M; key = w .pixel N; nodes = [] }) (f ∷ fs) gather)))
+  set-shut-turn {f} {fs} {N} {T} {M} {x} (is-moving small b (sets pre k n (set-shuts s c d t) a)) hand q =
+      close-step T _ M _ (shut-can S (omega arith) s c d t q .0) hand (is-moving small b (set-shut-moves S Q (omega arith) (sets pre k n (set-shuts s c d t) a) q))
+
+  -- a turn of a Move that leaves owners and levels as they are
+  move-step : {w′ : World δ} (now : Act) → Grows w w′ → Structure w′ → Partition w′ → ((m v : ℕ) → (w′ .nodeOwner m ≡ v) ↔ (w .nodeOwner m ≡ v)) → ((g v : ℕ) → (w′ .tree .levelOwner g ≡ v) ↔ (w .tree .levelOwner g ≡ v)) → ((j : ℕ) → j ≢ i → Spares (owner j) w w′) → ActOk w′ (owner i) (workers i .key) (workers i .since) now → Inv w′ (upd workers i (does (workers i) now))
+  move-step {w′} now E S′ Q′ n l X k =
+      inv-step I i (does (workers i) now) E S′ Q′
+      (λ j d. (X j d, record { same-node = λ m p. n m (owner j) .0 p; same-level = λ g p. l g (owner j) .0 p }))
+      (record { acts = k; holds-node = λ m. Iff·trans (n m (owner i)) (I .each i .holds-node m); holds-level = λ g. Iff·trans (l g (owner i)) (I .each i .holds-level g) })
+
+  -- the acting worker moves the frame's chain
+  not-theirs : {f : Frame} {ns : List ℕ} {j : ℕ} → FrameOk w (owner i) f ns → j ≢ i → w .mover (w .tree .into (f .home) (edge w f)) ≢ owner j
+  not-theirs k d p = apart d (sym (k .mine) ∙ ap (w .mover) (sym (k .leads)) ∙ p)
+
+  -- SetNext
+  pub aim-turn : {f : Frame} {fs : List Frame} {N T : ℕ} → Mine (moving f fs (aim N T)) → Inv (redirect w (f .home) (edge w f) (levelRef T) (w .mover)) (upd workers i (does (workers i) (moving f fs (set N (peek T at-entry)))))
+  aim-turn {f} {fs} {N} {T} (is-moving small b (aims pre k n o j c)) =
+      let can = can-aim S pre N k j in
+      move-step (moving f fs (set N (peek T at-entry))) (redirect-grows S can (w .mover)) (redirect-structure S can (w .mover)) (redirect-partition S can (w .mover) Q) (λ m v. Iff·rfl) (λ g v. Iff·rfl)
+      (λ u d. redirect-spares S can (w .mover) (owner u) (omega arith) (not-theirs k d) (λ c p. p))
+      (is-moving small b (aim-set S Q (aims pre k n o j c)))
+
+  -- SetPut, SetAppend done
+  pub set-put-turn : {f : Frame} {fs : List Frame} {N T : ℕ} {x : Pos} → Mine (moving f fs (set N (put T x N))) → word w (w .pixel N) T x ≡ levelRef T → (pre : List ℕ) × (now : Step) × Inv (moveOne w (f .home) (edge w f) pre N T (digit δ (w .pixel N) (w .tree .depth T))) (upd workers i (does (workers i) (moving (withNodes f pre) fs now)))
+  set-put-turn {f} {fs} {N} {T} {x} (is-moving small b (sets pre k n (set-puts e s l) a)) q = by (put-moved S Q pre k s l q a)
+    where
+      d : ℕ
+      d = digit δ (w .pixel N) (w .tree .depth T)
+
+      can : CanMove w (f .home) (edge w f) pre N T d
+      can = put-can S pre k s l q
+
+      step : (now : Step) → Moving (moveOne w (f .home) (edge w f) pre N T d) (owner i) (workers i .key) (withNodes f pre) fs now → Inv (moveOne w (f .home) (edge w f) pre N T d) (upd workers i (does (workers i) (moving (withNodes f pre) fs now)))
+      step now m =
+          move-step (moving (withNodes f pre) fs now) (move-grows S can) (move-structure S can) (move-partition S can Q) (λ m v. Iff·rfl) (λ g v. Iff·rfl)
+          (λ u d. move-spares S can (owner u) (omega arith) (not-theirs k d)) (is-moving small b m)
+
+      by : AfterMove (moveOne w (f .home) (edge w f) pre N T d) (owner i) (workers i .key) f fs pre → (pre : List ℕ) × (now : Step) × Inv (moveOne w (f .home) (edge w f) pre N T d) (upd workers i (does (workers i) (moving (withNodes f pre) fs now)))
+      by (emptied e m) = (pre, finish, step finish m)
+      by (next-one N′ m) = (pre, aim N′ (f .child), step (aim N′ (f .child)) m)
+
+  -- MoveEnd
+  pub finish-turn : {f : Frame} {fs : List Frame} → Mine (moving f fs finish) → (now : Act) × Inv (redirect w (f .home) (edge w f) (levelRef (f .child)) (upd (w .mover) (f .child) 0)) (upd workers i (does (workers i) now))
+  finish-turn {f} {fs} (is-moving small b (finishes k n a)) = by (finish-next S (workers i .since) (finishes k n a))
+    where
+      mv : ℕ → ℕ
+      mv = upd (w .mover) (f .child) 0
+
+      w′ : World δ
+      w′ = redirect w (f .home) (edge w f) (levelRef (f .child)) mv
+
+      can : CanRedirect w (f .home) (edge w f) (levelRef (f .child))
+      can = finish-can S k
+
+      kept : {j : ℕ} → j ≢ i → (c : ℕ) → w .mover c ≡ owner j → mv c ≡ owner j
+      kept d c p = upd-other (w .mover) (f .child) 0 c (λ y. apart d (sym (k .mine) ∙ ap (w .mover) (sym y) ∙ p)) ∙ p
+
+      step : (now : Act) → ActOk w′ (owner i) (workers i .key) (workers i .since) now → Inv w′ (upd workers i (does (workers i) now))
+      step now m =
+          move-step now (redirect-grows S can mv) (redirect-structure S can mv) (redirect-partition S can mv Q) (λ m v. Iff·rfl) (λ g v. Iff·rfl)
+          (λ u d. redirect-spares S can mv (owner u) (omega arith) (not-theirs k d) (kept d)) m
+
+      by : {gs : List Frame} → Finished w′ (owner i) (workers i .key) (workers i .since) f gs → (now : Act) × Inv w′ (upd workers i (does (workers i) now))
+      by (search-on l) = (searching (peek (f .child) at-entry), step (searching (peek (f .child) at-entry)) (is-searching small b l))
+      by (set-into {g} {gs} N m) = (moving g gs (aim N (f .child)), step (moving g gs (aim N (f .child))) (is-moving small b m))
