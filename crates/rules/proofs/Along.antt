@@ -1,27 +1,21 @@
 -- What holds along a sequence: the state is fine, the row reads the book of its world, and it is an order of the calls that have ended.
 -- Relies on the invariant of a state and on the row over one event.
-use Prim.Native.Nat.{ℕ, zero, suc, _+_, _≤_, _<_}
-use mathlib.Core.Path.{_≡_, refl, sym, ap, _∙_}
-use mathlib.Core.Logic.{_≢_, _⊎_, inl, inr}
-use mathlib.Core.Bool.{true, false}
-use mathlib.Core.List.{List, [], _∷_, _++_, append-nil, List·Permᴰ}
-use native.Mathlib.Decide.{ℕ-discrete, decLt}
-use native.Mathlib.Omega.{arith}
-use lib.Dec.{eqb}
-use lib.ListN.{length}
+use Prim.Native.Nat.{ℕ, suc, _<_}
+use mathlib.Core.Path.{_≡_, refl, ap, _∙_}
+use mathlib.Core.Logic.{_≢_}
+use mathlib.Core.Bool.{true}
+use mathlib.Core.List.{List, [], _∷_, _++_}
+use native.Mathlib.Decide.{ℕ-discrete}
 use borrow.Author.Tests.{eq-eqb, ne-eqb, ltb-true}
-use Rattle.words.specs.Digits.{pixelNumber}
 use Rattle.words.proofs.Choice.{pick-true, pick-false}
 use Rattle.settings.specs.declared.Settings.{Settings}
 use Rattle.areas.specs.Memory.{none}
 use Rattle.record.specs.declared.Answer.{Answer}
+use Rattle.rules.specs.Asked.{question4}
 use Rattle.rules.specs.Lists.{State}
 use Rattle.rules.specs.Calls.{Call, Opened, endedBy}
 use Rattle.trie.proofs.Update.{upd, upd-same, upd-other}
-use Rattle.trie.proofs.World.{World}
-use Rattle.trie.proofs.Evolve.{Grows}
 use Rattle.trie.proofs.Whole.{idle, Worker}
-use Rattle.rules.proofs.RowSteps.{Rowed}
 use Rattle.rules.proofs.RowTurns.{Newest, RowAfter, row-waits}
 use Rattle.rules.proofs.Invariant.{WorldOf, Fine, Rowing, goes, ends-new, ends-found}
 
@@ -34,6 +28,11 @@ pub record Along (w : ℕ) (s₀ : Settings) (x : State) (k : ℕ) (os : List Op
   pub top : world .tree .prev 0 ≡ none
   pub rows : RowAfter world workers k starts cs
   pub opened : (i : ℕ) → i < s₀ .workers → workers i .act ≢ idle → Newest os i (starts i) (workers i .key)
+
+-- question 4: the worker is one of the table
+pub below : {w : ℕ} {s₀ : Settings} {x : State} {k : ℕ} {os : List Opened} {cs : List Call} → Along w s₀ x k os cs → {i : ℕ} → question4 (x .settings) i ≡ true → i < s₀ .workers
+unfolding question4
+below {x = x} a {i} q = let l : i < x .settings .workers = ltb-true _ _ q in rw (a .fine .table .same .workers-is) at l
 
 -- an event that is refused: time passes
 pub along-waits : {w : ℕ} {s₀ : Settings} {x : State} {k : ℕ} {os : List Opened} {cs : List Call} → Along w s₀ x k os cs → Along w s₀ x (suc k) os (cs ++ [])

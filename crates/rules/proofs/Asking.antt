@@ -1,10 +1,8 @@
 -- Question 6 of a turn is answered yes, and the turn keeps the invariant, whatever the kind.
 -- Relies on the kinds of searching and moving.
 use Prim.Native.Nat.{ℕ}
-use mathlib.Core.Path.{_≡_, refl, sym, ap, _∙_}
-use mathlib.Core.Logic.{_≢_}
-use mathlib.Core.Bool.{Bool, true, false}
-use mathlib.Core.List.{List, [], _∷_}
+use mathlib.Core.Path.{_≡_, refl}
+use mathlib.Core.Bool.{true, false}
 use Rattle.words.proofs.Choice.{both-true}
 use Rattle.settings.specs.declared.Settings.{Settings}
 use Rattle.areas.specs.Memory.{Memory}
@@ -14,7 +12,7 @@ use Rattle.record.specs.Layout.{Record}
 use Rattle.rules.specs.Acts.{act}
 use Rattle.rules.specs.Asked.{readsBy, question6, question7, question9}
 use Rattle.trie.proofs.Whole.{Act, idle, searching, moving, Worker}
-use Rattle.rules.proofs.Matches.{Matches, Doing, rests, searches, moves}
+use Rattle.rules.proofs.Matches.{Doing, rests, searches, moves}
 use Rattle.rules.proofs.Invariant.{WorldOf, At, TurnOk}
 use Rattle.rules.proofs.Idle.{busy-acts}
 use Rattle.rules.proofs.Fitting.{fits-ok}

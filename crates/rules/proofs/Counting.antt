@@ -1,7 +1,7 @@
 -- Nodes taken counts the turns that took a next number for a node. This needs no invariant: it is read off the definitions.
 -- Relies on the definitions of the turns and on demand 1.
-use Prim.Native.Nat.{ℕ, zero, suc, _+_, _-_}
-use mathlib.Core.Path.{_≡_, refl, sym, ap, _∙_}
+use Prim.Native.Nat.{ℕ, _+_}
+use mathlib.Core.Path.{_≡_, refl, ap, _∙_}
 use mathlib.Core.Logic.{_≢_}
 use mathlib.Core.Bool.{Bool, true, false}
 use mathlib.Core.List.{List, [], _∷_}
@@ -23,7 +23,7 @@ use Rattle.record.specs.Layout.{Record}
 use Rattle.rules.specs.Steps.{Step, expected, tookNode, tookLevel, withNode, takeNode, withLevel, takeLevel, closed}
 use Rattle.rules.specs.Searching as searching
 use Rattle.rules.specs.Moving as moving
-use Rattle.rules.specs.Acts.{actBy, act, inner, outer}
+use Rattle.rules.specs.Acts.{actBy, act}
 use Rattle.rules.specs.Asked.{takesNode}
 use Rattle.rules.specs.Operations.{Result, recordOf, memoryOf, start, turn, taken, full}
 use Rattle.rules.specs.Lists.{State, after}

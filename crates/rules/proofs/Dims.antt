@@ -1,7 +1,7 @@
 -- The theory's sizes for a digit width and a chain limit, and the premise on the width under which demand 3 is proved.
 -- Relies on words for the digits and on the theory's sizes.
-use Prim.Native.Nat.{ℕ, zero, suc, _+_, _*_, _-_, _/_, _^_, _≤_, _<_}
-use mathlib.Core.Path.{_≡_, refl, sym, ap, _∙_}
+use Prim.Native.Nat.{ℕ, zero, suc, _-_, _^_, _≤_, _<_}
+use mathlib.Core.Path.{_≡_, refl}
 use native.Mathlib.Omega.{arith}
 use native.Mathlib.Nat.{pow-suc, pow-zero, div-le-self}
 use Rattle.words.specs.Digits.{base, depths, digit, maxPixel}

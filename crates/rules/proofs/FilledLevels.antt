@@ -1,18 +1,17 @@
 -- What a filled level reads: its own words as written, the words of every other level as they were.
 -- Relies on words for blocks, on areas for the layout of a level.
-use Prim.Native.Nat.{ℕ, zero, suc, _+_, _*_, _≤_, _<_}
-use mathlib.Core.Path.{_≡_, refl, sym, ap, _∙_}
+use Prim.Native.Nat.{ℕ, _+_, _*_, _≤_, _<_}
+use mathlib.Core.Path.{_≡_, refl, _∙_}
 use mathlib.Core.Logic.{_≢_}
 use mathlib.Core.List.{List}
-use native.Mathlib.Nat.{add-zero, add-suc, suc-add, mul-comm}
+use native.Mathlib.Nat.{add-zero, mul-comm}
 use native.Mathlib.Decide.{decLt}
 use native.Mathlib.Omega.{arith}
 use lib.Arith.{digits-lt}
-use lib.ListN.{length, getD, set, replicate, length-set, length-replicate}
+use lib.ListN.{length, getD, set, length-set}
 use lib.Seq.{getD-set-same, getD-set-other}
 use Rattle.words.specs.Digits.{base}
-use Rattle.words.specs.Blocks.{fill}
-use Rattle.words.proofs.Blocks.{below-sets, above-sets, length-fill}
+use Rattle.words.proofs.Blocks.{length-fill, fill-in, fill-below, fill-above}
 use Rattle.settings.specs.Sizes.{levelWords}
 use Rattle.areas.specs.Memory.{levelRef, previousAt, depthAt, entryAt, fillLevel}
 
@@ -23,21 +22,6 @@ row-lt a {g} {n} {x} h k = let t = digits-lt {q = g} {m = n} {r = x} {c = a} h k
 pub level-words : (w : ℕ) → levelWords w ≡ 2 + base w
 unfolding levelWords
 level-words w = refl
-
--- a block that is filled reads as the word, and a word outside it as before
-pub fill-in : (n : ℕ) (l : List ℕ) (i v k : ℕ) → k < n → i + n ≤ length l → getD (fill l i n v) (i + k) 0 ≡ v
-unfolding fill
-fill-in zero l i v k h r = absurd (omega arith)
-fill-in (suc n) l i v zero h r = rw add-zero (below-sets (replicate n v) (set l i v) (suc i) i (omega arith) ∙ getD-set-same l i v 0 (omega arith))
-fill-in (suc n) l i v (suc k) h r = rw (add-suc, ← suc-add) (fill-in n (set l i v) (suc i) v k (omega arith) (rw length-set (omega arith)))
-
-fill-below : (l : List ℕ) (i n v j : ℕ) → j < i → getD (fill l i n v) j 0 ≡ getD l j 0
-unfolding fill
-fill-below l i n v j h = below-sets (replicate n v) l i j h
-
-fill-above : (l : List ℕ) (i n v j : ℕ) → i + n ≤ j → getD (fill l i n v) j 0 ≡ getD l j 0
-unfolding fill
-fill-above l i n v j h = above-sets (replicate n v) l i j (rw length-replicate h)
 
 module _ (w : ℕ) (levels : List ℕ) (g p d : ℕ) where
   -- the two words of its head are written first

@@ -20,7 +20,7 @@ use Rattle.record.specs.Layout.{Record}
 use Rattle.record.specs.Fits.{onChain, callFits, fitsBy}
 use Rattle.trie.proofs.Digits.{Dims}
 use Rattle.trie.proofs.World.{World}
-use Rattle.trie.proofs.Stand.{Pos, at-entry, at-node, CountOk}
+use Rattle.trie.proofs.Stand.{Pos, at-node, CountOk}
 use Rattle.trie.proofs.Search as clause
 use Rattle.trie.proofs.Search.{Phase, peek, fetch, put, again, level, shut, Local}
 use Rattle.trie.proofs.Move.{SetOk, set-peeks, set-puts, set-reads, set-levels, set-shuts}
@@ -95,20 +95,6 @@ module _ (δ : Dims) (s : Settings) (h : Head) (same : s .limit ≡ δ .limit) w
 pub call-fits : (s : Settings) (h : Head) (k : Kind) → h .pixel ≤ maxPixel → CountFits s h k → callFits s (kindNo k) h ≡ true
 unfolding callFits CountFits
 call-fits s h k l c = both-true (le-leb _ _ l) (pick-both (λ b. b ≡ true) (onChain (kindNo k)) c (λ e. refl))
-
--- the kinds of a search are 1 to 10
-pub search-no : (p : Phase) → (0 < kindNo (searchKind p)) × (kindNo (searchKind p) ≤ 10)
-unfolding kindNo
-search-no (peek H at-entry) = (omega arith, omega arith)
-search-no (peek H (at-node R C)) = (omega arith, omega arith)
-search-no (fetch H at-entry) = (omega arith, omega arith)
-search-no (fetch H (at-node R C)) = (omega arith, omega arith)
-search-no (put H at-entry n) = (omega arith, omega arith)
-search-no (put H (at-node R C) n) = (omega arith, omega arith)
-search-no (again H at-entry) = (omega arith, omega arith)
-search-no (again H (at-node R C)) = (omega arith, omega arith)
-search-no (level H x) = (omega arith, omega arith)
-search-no (shut H x G) = (omega arith, omega arith)
 
 pub searching-fits : (w : ℕ) (s : Settings) (r : Record) (k : ℕ) → 0 < k → k ≤ 10 → callFits s k (r .head) ≡ true → r .moves ≡ [] → fitsBy w s k r ≡ true
 unfolding fitsBy

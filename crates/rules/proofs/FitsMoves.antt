@@ -1,11 +1,11 @@
 -- The Moves of a record fit the layout: they are few, each has its words, and the nodes that each remembers are at most the chain limit.
 -- Relies on the frames that Moves show and on the theory's nesting and chains.
-use Prim.Native.Nat.{ℕ, suc, _+_, _-_, _≤_, _<_}
+use Prim.Native.Nat.{ℕ, _+_, _-_, _≤_, _<_}
 use mathlib.Core.Path.{_≡_, refl, sym, ap, _∙_}
 use mathlib.Core.Logic.{_⊎_, inl, inr}
 use mathlib.Core.Bool.{true}
 use mathlib.Core.List.{List, [], _∷_, _++_}
-use lib.ListN.{length, length-append, length-take}
+use lib.ListN.{length, length-append}
 use native.Mathlib.Omega.{arith}
 use borrow.Author.Tests.{eq-eqb, ne-eqb, le-leb, lt-leb}
 use Rattle.words.specs.Choice.{pick, both, every}
@@ -20,25 +20,17 @@ use Rattle.record.specs.Fits.{hasNode, callFits, innerFits, outerFits, movesFit
 use Rattle.record.proofs.Pieces.{AllSized}
 use Rattle.trie.proofs.Digits.{Dims, digit-lt}
 use Rattle.trie.proofs.World.{World, Structure}
-use Rattle.trie.proofs.Stand.{at-entry, at-node}
-use Rattle.trie.proofs.Search.{Phase}
 use Rattle.trie.proofs.Move as theory
-use Rattle.trie.proofs.Move.{Frame, edge, FrameOk, Around, Step, Moving, frame-depth, frames-le, SetOk, set-peeks, set-puts, set-reads, set-levels, set-shuts}
+use Rattle.trie.proofs.Move.{Frame, edge, FrameOk, Around, Step, Moving, frame-depth, frames-le}
 use Rattle.trie.proofs.MoveTurns.{frame-published}
-use Rattle.rules.proofs.Matches.{setKind, gatherKind, stepKind, Framed, Frames, none, more}
+use Rattle.rules.proofs.Matches.{gatherKind, stepKind, Framed, Frames, none, more}
+use Rattle.rules.proofs.KindNumbers.{set-no}
+use Rattle.rules.proofs.MoveRecords.{framed-count, last-count, frames-length}
 use Rattle.rules.proofs.FitsCall.{within-ok}
-
--- the number of nodes remembered
-pub framed-count : {v : Move} {f : Frame} → Framed v f → v .count ≡ length (f .nodes)
-framed-count {v} {f} k = let e = ap length (sym (k .nodes-are)) ∙ length-take (v .count) (v .nodes) in omega (arith, k .count-le, k .sized)
 
 pub frames-sized : {vs : List Move} {fs : List Frame} → Frames vs fs → AllSized vs
 frames-sized none = tt
 frames-sized (more k ks) = (k .sized, frames-sized ks)
-
-pub frames-length : {vs : List Move} {fs : List Frame} → Frames vs fs → length vs ≡ length fs
-frames-length none = refl
-frames-length (more k ks) = ap suc (frames-length ks)
 
 -- the innermost Move by the number of its kind: it has a node to go on with, or has remembered none
 data Inner (s : Settings) (k c : ℕ) : Type 0 where
@@ -62,9 +54,9 @@ module _ {δ : Dims} {w : World δ} (S : Structure w) where
   frame-short {v} {f} {ns} k = rw (k .holds) at (S .slot (f .home) (edge w f) (k .path .pub-at) (digit-lt δ (f .key) (w .tree .depth (f .home))) .short)
 
   -- so is what is remembered, and a frame that sets a node remembers it
-  last-count : {u : ℕ} {v : Move} {f : Frame} (pre : List ℕ) (N : ℕ) → Framed v f → FrameOk w u f (pre ++ (N ∷ [])) → f .nodes ≡ pre ++ (N ∷ []) → (0 < v .count) × (v .count ≤ δ .limit)
-  last-count {u} {v} {f} pre N k o n =
-      let e : v .count ≡ length pre + 1 = framed-count k ∙ ap length n ∙ length-append pre (N ∷ []) in
+  node-count : {u : ℕ} {v : Move} {f : Frame} (pre : List ℕ) (N : ℕ) → Framed v f → FrameOk w u f (pre ++ (N ∷ [])) → f .nodes ≡ pre ++ (N ∷ []) → (0 < v .count) × (v .count ≤ δ .limit)
+  node-count {u} {v} {f} pre N k o n =
+      let e = last-count k pre N n in
       let short = frame-short o in
       let l = length-append pre (N ∷ []) in
       (omega arith, omega arith)
@@ -74,24 +66,12 @@ module _ {δ : Dims} {w : World δ} (S : Structure w) where
   unfolding every outerFits
   outer-fits s e none a = refl
   outer-fits s e (more {v} k ks) (theory.within pre N o n q i a) =
-      let (l, g) = last-count pre N k o n in
+      let (l, g) = node-count pre N k o n in
       both-true (within-ok (v .count) (s .limit) l (omega arith)) (outer-fits s e ks a)
 
   -- the frame and those around it are fewer than the depths
   frames-few : {u K : ℕ} {f : Frame} {fs : List Frame} {ns : List ℕ} → FrameOk w u f ns → Around w u K (f .home) (f .key) (f .child) fs → length fs + 1 ≤ δ .depths - 1
   frames-few {f = f} k a = omega (arith, frames-le S a, frame-depth S k, S .tree-ok .bounded (f .child) (frame-published S k))
-
-  -- the kinds that set a node are 14 to 21
-  set-no : {u N G : ℕ} {p : Phase} → SetOk w u N G p → (13 < kindNo (setKind p)) × (kindNo (setKind p) ≤ 21)
-  unfolding kindNo
-  set-no (set-peeks {x = at-entry} s) = (omega arith, omega arith)
-  set-no (set-peeks {x = at-node R C} s) = (omega arith, omega arith)
-  set-no (set-puts {x = at-entry} e s l) = (omega arith, omega arith)
-  set-no (set-puts {x = at-node R C} e s l) = (omega arith, omega arith)
-  set-no (set-reads {x = at-entry} s n) = (omega arith, omega arith)
-  set-no (set-reads {x = at-node R C} s n) = (omega arith, omega arith)
-  set-no (set-levels s l d) = (omega arith, omega arith)
-  set-no (set-shuts s l d k) = (omega arith, omega arith)
 
   -- the innermost Move: the number of its kind, and of the nodes that it remembers
   inner : (s : Settings) → s .limit ≡ δ .limit → {u K : ℕ} {v : Move} {f : Frame} {fs : List Frame} {p : Step} → Framed v f → Moving w u K f fs p → Inner s (kindNo (stepKind f p)) (v .count)
@@ -99,14 +79,14 @@ module _ {δ : Dims} {w : World δ} (S : Structure w) where
   inner s e {v = v} {f = f} k (theory.gathers rest o n q a) = by (f .nodes) refl
     where
       by : (ns : List ℕ) → f .nodes ≡ ns → Inner s (kindNo (gatherKind ns)) (v .count)
-      by [] z = at-end (inl refl) (framed-count k ∙ ap length z)
+      by [] z = at-end (inl refl) (sym (framed-count k) ∙ ap length z)
       by (m ∷ ns) z = going-on (omega arith) (omega arith) (omega (arith, framed-count k, ap length z)) (omega (arith, framed-count k, length-append (f .nodes) rest))
-  inner s e k (theory.aims {N} pre o n q i a) = let (l, g) = last-count pre N k o n in going-on (omega arith) (omega arith) l (omega arith)
+  inner s e k (theory.aims {N} pre o n q i a) = let (l, g) = node-count pre N k o n in going-on (omega arith) (omega arith) l (omega arith)
   inner s e k (theory.sets {N} pre o n c a) =
-      let (l, g) = last-count pre N k o n in
+      let (l, g) = node-count pre N k o n in
       let (x, y) = set-no c in
       going-on (omega arith) (omega arith) l (omega arith)
-  inner s e k (theory.finishes o n a) = at-end (inr refl) (framed-count k ∙ ap length n)
+  inner s e k (theory.finishes o n a) = at-end (inr refl) (sym (framed-count k) ∙ ap length n)
 
   -- a moving worker's frames
   record Framing (u K : ℕ) (f : Frame) (fs : List Frame) : Type 0 where

@@ -22,7 +22,8 @@ use Rattle.trie.proofs.Whole.{Act, Worker, ActOk, is-idle, is-searching, is-mov
 use Rattle.rules.proofs.Dims.{dims}
 use Rattle.rules.proofs.Matches.{searchKind, stepKind, gatherKind, Stepped, gathers, aims, sets, finishes, Doing, rests, searches, moves}
 use Rattle.rules.proofs.Invariant.{WorldOf, At}
-use Rattle.rules.proofs.FitsCall.{local-counted, set-counted, CountFits, off-chain, search-count, set-count, call-fits, search-no, searching-fits}
+use Rattle.rules.proofs.KindNumbers.{search-no}
+use Rattle.rules.proofs.FitsCall.{local-counted, set-counted, CountFits, off-chain, search-count, set-count, call-fits, searching-fits}
 use Rattle.rules.proofs.FitsMoves.{frames-sized, moves-few, moving-fits}
 
 -- no Move

@@ -1,7 +1,7 @@
 -- A worker's record shows the theory's worker: the kind and the numbers of the head, and the Moves.
 -- Relies on the record's layout and on the theory's phases and frames.
-use Prim.Native.Nat.{ℕ, zero, suc, _+_, _≤_, _<_}
-use mathlib.Core.Path.{_≡_, refl, sym, ap, _∙_}
+use Prim.Native.Nat.{ℕ, suc, _≤_}
+use mathlib.Core.Path.{_≡_}
 use mathlib.Core.List.{List, [], _∷_}
 use lib.ListN.{length, take}
 use Rattle.settings.specs.Sizes.{maxLimit}

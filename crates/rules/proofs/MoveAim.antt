@@ -27,9 +27,10 @@ use Rattle.trie.proofs.Whole.{Worker, ActOk, is-moving, moving, owner}
 use Rattle.trie.proofs.Turns.{aim-turn}
 use Rattle.rules.proofs.Matches.{Framed, Frames, more, entry, peeks}
 use Rattle.rules.proofs.Invariant.{WorldOf, At, TurnOk}
-use Rattle.rules.proofs.Reading.{level-taken, node-taken, next-taken}
-use Rattle.rules.proofs.MoveRecords.{not-free, last-is}
-use Rattle.rules.proofs.MoveOn.{next-set, table-with, written, moves-on}
+use Rattle.rules.proofs.Reading.{not-free, level-taken, node-taken, next-taken}
+use Rattle.rules.proofs.MoveRecords.{last-is}
+use Rattle.rules.proofs.Turned.{table-with, written}
+use Rattle.rules.proofs.MoveOn.{next-set, moves-on}
 
 module _ {w : ℕ} {s₀ s : Settings} {m : Memory} {W : WorldOf w s₀} {ws : ℕ → Worker} {i : ℕ} {h : Head} {v : Move} {os : List Move} {f : Frame} {fs : List Frame} (a : At w s₀ s m W ws i (record′ h (v ∷ os))) (on : Framed v f) (js : Frames os fs) (N : ℕ) {T : ℕ} (l : h .level ≡ T) where
   pub aim-asks : ActOk W (owner i) (ws i .key) (ws i .since) (moving f fs (aim N T)) → readsBy SetNext w s h (v ∷ os) m ≡ true

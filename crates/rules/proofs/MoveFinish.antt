@@ -25,13 +25,14 @@ use Rattle.trie.proofs.Stand.{at-entry}
 use Rattle.trie.proofs.Search.{peek}
 use Rattle.trie.proofs.Move.{Frame, edge, aim, finish, finishes}
 use Rattle.trie.proofs.MoveTurns.{Finished, search-on, set-into, finish-can, finish-next, frame-published}
-use Rattle.trie.proofs.MoveSteps.{finish-step}
+use Rattle.trie.proofs.Turns.{finish-step}
 use Rattle.trie.proofs.Whole.{Worker, ActOk, is-searching, is-moving, searching, moving, owner}
 use Rattle.rules.proofs.Matches.{Framed, Frames, none, more, entry, peeks, searches}
 use Rattle.rules.proofs.Invariant.{WorldOf, Table, At, TurnOk}
-use Rattle.rules.proofs.Reading.{level-taken, entry-taken}
-use Rattle.rules.proofs.MoveRecords.{not-free, home-cell, picks-home}
-use Rattle.rules.proofs.MoveOn.{call-level, next-aim, table-with, written, still-searching, acted, moves-on}
+use Rattle.rules.proofs.Reading.{not-free, level-taken, entry-taken}
+use Rattle.rules.proofs.MoveRecords.{home-cell, picks-home}
+use Rattle.rules.proofs.Turned.{call-level, table-with, written, still-searching, acted}
+use Rattle.rules.proofs.MoveOn.{next-aim, moves-on}
 
 module _ {w : ℕ} {s₀ s : Settings} {m : Memory} {W : WorldOf w s₀} {ws : ℕ → Worker} {i : ℕ} {h : Head} {v : Move} {os : List Move} {f : Frame} {fs : List Frame} (a : At w s₀ s m W ws i (record′ h (v ∷ os))) (on : Framed v f) (js : Frames os fs) where
   pub finish-asks : ActOk W (owner i) (ws i .key) (ws i .since) (moving f fs finish) → readsBy MoveEnd w s h (v ∷ os) m ≡ true

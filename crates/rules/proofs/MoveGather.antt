@@ -28,13 +28,15 @@ use Rattle.trie.proofs.Chain.{endCell, end-at}
 use Rattle.trie.proofs.World.{Placed}
 use Rattle.trie.proofs.Move.{Frame, edge, gather, Moving, gathers, aims}
 use Rattle.trie.proofs.MoveTurns.{Gathered, one-more, complete, gather-next, frame-published, withNodes}
+use Rattle.trie.proofs.Reached.{a-level, a-node}
 use Rattle.trie.proofs.Whole.{Worker, ActOk, is-moving, moving, owner}
 use Rattle.rules.proofs.Words.{shows-at}
 use Rattle.rules.proofs.Matches.{Framed, Frames, more, gatherKind}
 use Rattle.rules.proofs.Invariant.{WorldOf, At, TurnOk}
-use Rattle.rules.proofs.Reading.{node-ref, level-ref, named-node, node-taken, next-reads, entry-taken, a-level, a-node, known-taken}
-use Rattle.rules.proofs.MoveRecords.{not-free, framed-count, last-count, last-is, framed-remember, home-cell, picks-home}
-use Rattle.rules.proofs.MoveOn.{last-aims, limit-pos, limit-le, next-aim, next-gather, reads-on}
+use Rattle.rules.proofs.Reading.{not-free, node-ref, level-ref, named-node, node-taken, next-reads, entry-taken, real-taken}
+use Rattle.rules.proofs.MoveRecords.{framed-count, last-count, last-is, framed-remember, home-cell, picks-home}
+use Rattle.rules.proofs.Turned.{limit-pos, limit-le}
+use Rattle.rules.proofs.MoveOn.{last-aims, next-aim, next-gather, reads-on}
 
 -- after a node is remembered the next turn reads that node's next
 gather-more : (ns : List ℕ) (n : ℕ) → gatherKind (ns ++ (n ∷ [])) ≡ ChainNext
@@ -73,9 +75,9 @@ module _ {w : ℕ} {s₀ s : Settings} {m : Memory} {W : WorldOf w s₀} {ws : �
       let y = room n (gathers rest k l z c) in
       let u = a .table .same .limit-is in
       let fits : v .count + 1 ≤ s .limit = omega arith in
-      both-true (known-taken (a .table) (a-node n e placed)) (pick-true (isNode r) (leb (v .count + 1) (s .limit)) true (rw e (node-ref n)) ∙ le-leb (v .count + 1) (s .limit) fits)
+      both-true (real-taken (a .table) (a-node n e placed)) (pick-true (isNode r) (leb (v .count + 1) (s .limit)) true (rw e (node-ref n)) ∙ le-leb (v .count + 1) (s .limit) fits)
   asks-word {r} (complete e N (aims pre k n o j c)) =
-      both-true (known-taken (a .table) (a-level (f .child) e (frame-published (a .inv .structure) k))) (pick-false (isNode r) (leb (v .count + 1) (s .limit)) true (rw e (level-ref (f .child))))
+      both-true (real-taken (a .table) (a-level (f .child) e (frame-published (a .inv .structure) k))) (pick-false (isNode r) (leb (v .count + 1) (s .limit)) true (rw e (level-ref (f .child))))
 
   -- what a turn does with it
   turn-word : {r : ℕ} → (ws i .key < base w ^ depths w) → ws i .since ≤ length (W .book) → Chain r → TurnOk w s₀ W ws i (chainWord s h v os r m)

@@ -2,7 +2,6 @@
 -- Relies on what a record shows, and on what a turn reads.
 use Prim.Native.Nat.{ℕ, suc, _-_, _<_}
 use mathlib.Core.Path.{_≡_, refl, sym, ap, _∙_}
-use mathlib.Core.Logic.{_≢_}
 use mathlib.Core.Bool.{true}
 use mathlib.Core.List.{List, [], _∷_, _++_}
 use native.Mathlib.Omega.{arith}
@@ -26,11 +25,7 @@ use Rattle.trie.proofs.MoveTurns.{withNodes}
 use Rattle.rules.proofs.Words.{cellIn}
 use Rattle.rules.proofs.Matches.{Framed, Frames, none, more}
 use Rattle.rules.proofs.Invariant.{WorldOf, Table}
-use Rattle.rules.proofs.Reading.{pixel-reads, entry-cell, picks-in, pixel-fits}
-
--- what is published or placed is not free
-pub not-free : {x : ℕ} → x ≡ 0 → x ≢ 1
-not-free e q = omega arith
+use Rattle.rules.proofs.Reading.{not-free, pixel-reads, entry-cell, picks-in, pixel-fits}
 
 module _ {v : Move} {f : Frame} (on : Framed v f) where
   pub framed-count : length (f .nodes) ≡ v .count
@@ -74,9 +69,9 @@ module _ {v : Move} {f : Frame} (on : Framed v f) where
       }
 
 -- a Move that has remembered nothing
-pub framed-new : (T G K : ℕ) → Framed (newMove T G) (record { home = T; child = G; key = K; nodes = [] })
+pub framed-new : (home child H K : ℕ) → home ≡ H → Framed (newMove home child) (record { home = H; child = child; key = K; nodes = [] })
 unfolding newMove
-framed-new T G K = record { home-is = refl; child-is = refl; nodes-are = refl; count-le = omega arith; sized = refl }
+framed-new home child H K e = record { home-is = e; child-is = refl; nodes-are = refl; count-le = omega arith; sized = refl }
 
 pub frames-length : {vs : List Move} {fs : List Frame} → Frames vs fs → length vs ≡ length fs
 frames-length none = refl

@@ -1,27 +1,25 @@
 -- The state that an opening leaves: an empty table, every worker idle, the row empty.
 -- Relies on the theory's table after an opening, on what the words show, and on the record of zeros.
-use Prim.Native.Nat.{ℕ, zero, suc, _+_, _*_, _-_, _≤_, _<_}
+use Prim.Native.Nat.{ℕ, _+_, _*_, _-_, _≤_, _<_}
 use mathlib.Core.Path.{_≡_, refl, sym, ap, _∙_}
-use mathlib.Core.Logic.{_≢_}
 use mathlib.Core.Bool.{true}
-use mathlib.Core.List.{List, [], _∷_, List·Memᴰ·not-nil, List·Permᴰ·nil}
+use mathlib.Core.List.{List, [], List·Memᴰ·not-nil, List·Permᴰ·nil}
 use native.Mathlib.Decide.{ℕ-discrete}
 use native.Mathlib.Omega.{arith}
-use lib.ListN.{length, getD, replicate}
-use Rattle.words.specs.Blocks.{cells, fill}
-use Rattle.words.proofs.Blocks.{length-fill}
+use lib.ListN.{length}
+use Rattle.words.specs.Blocks.{fill}
+use Rattle.words.proofs.Blocks.{length-fill, fill-in}
 use Rattle.settings.specs.Sizes.{levelCount, nodeWords, levelWords, workerWords, question1, question2, fresh}
 use Rattle.settings.specs.declared.Settings.{Settings}
 use Rattle.settings.proofs.Laws.{room}
-use Rattle.areas.specs.Memory.{Areas, areas, Memory, memory, levelRef, none, pixelAt, nextAt, previousAt, depthAt, entryAt, fillLevel}
+use Rattle.areas.specs.Memory.{Areas, Memory, none, pixelAt, nextAt, previousAt, depthAt, entryAt}
 use Rattle.record.specs.Layout.{load, workerPlace}
 use Rattle.record.proofs.Records.{idle, zero-words}
 use Rattle.record.proofs.Apart.{place-next, room as word-room}
 use native.Mathlib.Nat.{zero-add}
-use Rattle.rules.proofs.FilledLevels.{fill-in}
 use Rattle.rules.specs.Opening.{openedSettings, openedAreas}
-use Rattle.rules.specs.Operations.{opening, openingQuestions, recordOf, memoryOf}
-use Rattle.rules.specs.Lists.{State, state, after}
+use Rattle.rules.specs.Operations.{memoryOf}
+use Rattle.rules.specs.Lists.{state}
 use Rattle.trie.proofs.Digits.{Dims}
 use Rattle.trie.proofs.Update.{Cell, ent, nxt, upd-same, upd-other}
 use Rattle.trie.proofs.Count.{Counted}
@@ -30,13 +28,12 @@ use Rattle.trie.proofs.World.{World}
 use Rattle.trie.proofs.Fresh.{Fresh}
 use Rattle.trie.proofs.Opening as theory
 use Rattle.trie.proofs.Levels.{Levels, holding}
-use Rattle.trie.proofs.Whole.{Worker, Inv}
-use Rattle.rules.proofs.Dims.{Width, dims}
+use Rattle.rules.proofs.Dims.{Width}
 use Rattle.rules.proofs.Words.{Shows, shows-level}
 use Rattle.rules.proofs.RowEnds.{pairs}
 use Rattle.rules.proofs.Matches.{Matches, rests}
 use Rattle.rules.specs.Calls.{done}
-use Rattle.rules.proofs.Invariant.{WorldOf, Table, Fine}
+use Rattle.rules.proofs.Invariant.{WorldOf, Table}
 use Rattle.rules.proofs.Along.{Along}
 
 -- the cells' words as a function

@@ -73,6 +73,11 @@ pub first-yes : (k : ℕ) {b : Bool} (qs : List Question) → b ≡ true → fir
 unfolding firstNo
 first-yes k qs y = pick-true _ _ _ y
 
+-- no question gives no number
+pub none-given : {n : ℕ} → n ≢ 0 → firstNo [] ≢ n
+unfolding firstNo
+none-given h e = h (sym e)
+
 -- the last question gives its number when it is answered no
 pub last-no : (k : ℕ) (b : Bool) → k ≢ 0 → firstNo (asks k b ∷ []) ≡ k → b ≡ false
 unfolding firstNo

@@ -1,10 +1,9 @@
 -- What a turn reads: the words of a table are those of its world, what is published or placed is taken, and the parts of question 6 hold of it.
 -- Relies on what the words show and on the theory's structure.
-use Prim.Native.Nat.{ℕ, zero, suc, _+_, _*_, _-_, _/_, _%_, _^_, _≤_, _<_}
+use Prim.Native.Nat.{ℕ, zero, suc, _+_, _-_, _%_, _≤_, _<_}
 use mathlib.Core.Path.{_≡_, refl, sym, ap, _∙_}
 use mathlib.Core.Logic.{_≢_}
-use mathlib.Core.Bool.{Bool, true, false}
-use mathlib.Core.List.{List, List·Memᴰ·head, Memᴰ·append-right}
+use mathlib.Core.Bool.{true, false}
 use native.Mathlib.Decide.{ℕ-discrete}
 use native.Mathlib.Omega.{arith}
 use lib.Dec.{eqb}
@@ -15,22 +14,25 @@ use Rattle.words.specs.Digits as words
 use Rattle.words.proofs.Choice.{pick-true, pick-false, both-true}
 use Rattle.settings.specs.Sizes.{levelCount}
 use Rattle.settings.specs.declared.Settings.{Settings}
-use Rattle.areas.specs.Memory.{Memory, levelRef, nodeRef, isNode, named, pixelAt, nextAt, depthAt, previousAt, cellAt, entryCell, levelTaken, nodeTaken, refTaken}
+use Rattle.areas.specs.Memory.{Memory, levelRef, nodeRef, isNode, named, pixelAt, nextAt, depthAt, previousAt, entryCell, levelTaken, nodeTaken, refTaken}
 use Rattle.areas.specs.declared.Cell.the-variants.{Entry}
-use Rattle.record.specs.declared.Head.{Head}
-use Rattle.rules.specs.Steps.{expected, childOf, backMeets}
+use Rattle.rules.specs.Steps.{childOf, backMeets}
 use Rattle.rules.specs.Asked.{picksIn, pixelFits}
-use Rattle.trie.proofs.Digits.{Dims, digit, digit-lt}
+use Rattle.trie.proofs.Digits.{digit, digit-lt}
 use Rattle.trie.proofs.Update as theory
 use Rattle.trie.proofs.Update.{ent, nxt}
 use Rattle.trie.proofs.Tree.{Published, Inside, here, up, inside-pub, inside-depth, closed-depth, not-inside}
-use Rattle.trie.proofs.World.{World, Placed, Structure, along, gone}
+use Rattle.trie.proofs.World.{Placed, Structure}
 use Rattle.trie.proofs.Fresh.{owned-taken}
 use Rattle.trie.proofs.Read.{goBack}
-use Rattle.trie.proofs.Stand.{Pos, at-entry, at-node, cellOf, Stand, on-entry, on-node, Met, met-node, met-level, meets}
+use Rattle.trie.proofs.Reached.{Real, a-level, a-node}
 use Rattle.rules.proofs.Dims.{dims, digit-is}
-use Rattle.rules.proofs.Words.{cellIn, Taken, shows-at}
+use Rattle.rules.proofs.Words.{cellIn, Taken}
 use Rattle.rules.proofs.Invariant.{WorldOf, Table}
+
+-- what is published or placed is not free
+pub not-free : {x : ℕ} → x ≡ 0 → x ≢ 1
+not-free e q = omega arith
 
 -- references
 
@@ -49,15 +51,6 @@ named-node i = omega arith
 pub named-level : (g : ℕ) → named (levelRef g) ≡ g
 unfolding named
 named-level g = omega arith
-
--- the expected level stands in the cell, or not
-pub is-expected : (h : Head) {word : ℕ} → word ≡ levelRef (h .level) → expected h word ≡ true
-unfolding expected
-is-expected h e = eq-eqb _ _ e
-
-pub not-expected : (h : Head) {word : ℕ} → word ≢ levelRef (h .level) → expected h word ≡ false
-unfolding expected
-not-expected h e = ne-eqb _ _ e
 
 module _ {w : ℕ} {s₀ s : Settings} {m : Memory} {W : WorldOf w s₀} (T : Table w s₀ s m W) where
   -- what is not free lies below the counters
@@ -111,9 +104,6 @@ module _ {w : ℕ} {s₀ s : Settings} {m : Memory} {W : WorldOf w s₀} (T : Ta
   pub entry-taken : (g p : ℕ) → W .tree .levelOwner g ≢ 1 → Taken w (s₀ .nodes) (levelCount w s₀) (ent g (digit (dims w (s₀ .limit)) p (W .tree .depth g)))
   entry-taken g p h = (level-room g h, digit-lt (dims w (s₀ .limit)) p (W .tree .depth g))
 
-  pub entry-reads : (g p : ℕ) → W .tree .levelOwner g ≢ 1 → cellAt w m (entryCell w (m .levels) g p) ≡ W .cell (ent g (digit (dims w (s₀ .limit)) p (W .tree .depth g)))
-  entry-reads g p h = ap (cellAt w m) (entry-cell g p h) ∙ shows-at (T .shows) (ent g (digit (dims w (s₀ .limit)) p (W .tree .depth g))) (entry-taken g p h)
-
   pub next-taken : (n : ℕ) → W .nodeOwner n ≢ 1 → Taken w (s₀ .nodes) (levelCount w s₀) (nxt n)
   next-taken n h = node-room n h
 
@@ -161,29 +151,7 @@ module _ {w : ℕ} {s₀ s : Settings} {m : Memory} {W : WorldOf w s₀} (T : Ta
   pub back-meets : (S : Structure W) {H e t : ℕ} → W .tree .into H e ≢ 0 → Inside (W .tree) (W .tree .into H e) t → backMeets w s (m .levels) (depths w - 1) H t ≡ true
   back-meets S {H} {e} {t} z i = meets-within S (depths w - 1) z i (omega (arith, S .tree-ok .bounded t (inside-pub (S .tree-ok .closed H e z .to) i)))
 
--- a place of a search or a setting stands at a cell of something taken
-module _ {w : ℕ} {s₀ s : Settings} {m : Memory} {W : WorldOf w s₀} (T : Table w s₀ s m W) (S : Structure W) where
-  pub stand-node : {P : ℕ → Type 0} {H e R C : ℕ} → Stand W P H e (at-node R C) → Placed W R
-  stand-node {H} {e} {R} {C} (on-node (along pre post c k f r)) = S .homed R H e (rw c (Memᴰ·append-right pre (List·Memᴰ·head refl))) .placed
-  stand-node (on-node (gone z i f)) = i .placed
-
--- the word at a place is a reference to something published or placed
-pub data Known {δ : Dims} (W : World δ) (r : ℕ) : Type 0 where
-  a-level : (g : ℕ) → r ≡ levelRef g → Published (W .tree) g → Known W r
-  a-node : (n : ℕ) → r ≡ nodeRef n → Placed W n → Known W r
-
-pub known-taken : {w : ℕ} {s₀ s : Settings} {m : Memory} {W : WorldOf w s₀} → Table w s₀ s m W → {r : ℕ} → Known W r → refTaken s r ≡ true
-known-taken {s = s} T (a-level g e p) = ap (refTaken s) e ∙ level-ref-taken T g p
-known-taken {s = s} T (a-node n e p) = ap (refTaken s) e ∙ node-ref-taken T n p
-
--- the cells of published levels and placed nodes hold such references
-pub cell-known : {δ : Dims} {W : World δ} (S : Structure W) {P : ℕ → Type 0} {H e : ℕ} {x : Pos} → Published (W .tree) H → e < δ .base → Stand W P H e x → Known W (W .cell (cellOf H e x))
-cell-known {δ} {W} S {P} {H} {e} {x} p l k = by (ℕ-discrete (W .cell (cellOf H e x)) (levelRef H))
-  where
-    what : Met W P H e x (W .cell (cellOf H e x)) → Known W (W .cell (cellOf H e x))
-    what (met-node R q r f) = a-node R q r
-    what (met-level t q z i f d) = a-level t q (inside-pub (S .tree-ok .closed H e z .to) i)
-
-    by : Dec (W .cell (cellOf H e x) ≡ levelRef H) → Known W (W .cell (cellOf H e x))
-    by (yes q) = a-level H q p
-    by (no q) = what (meets S p l k q)
+-- what a reference to something published or placed names is taken
+pub real-taken : {w : ℕ} {s₀ s : Settings} {m : Memory} {W : WorldOf w s₀} → Table w s₀ s m W → {r : ℕ} → Real W r → refTaken s r ≡ true
+real-taken {s = s} T (a-level g e p) = ap (refTaken s) e ∙ level-ref-taken T g p
+real-taken {s = s} T (a-node n e p) = ap (refTaken s) e ∙ node-ref-taken T n p

@@ -1,16 +1,16 @@
 -- The row of ended calls: a book reads it, and it respects the times of the calls. A "full" goes before the "new" of its pixel, all else at the end.
 -- Relies on the definitions of calls and of the book.
-use mathlib.Core.Path.{_≡_, refl, sym, ap, _∙_}
+use mathlib.Core.Path.{_≡_, refl, sym, ap}
 use mathlib.Core.Logic.{_≢_, _⊎_, inl, inr}
 use mathlib.Core.List.{List, [], _∷_, _++_, append-nil, List·Memᴰ, List·Memᴰ·head, List·Memᴰ·tail, List·Memᴰ·not-nil, List·Memᴰ·cases-cons, List·Memᴰ·append-cases, Memᴰ·append-left, Memᴰ·append-right, List·Memᴰ·eq-of-singleton}
-use Prim.Native.Nat.{ℕ, zero, suc, _+_, _≤_, _<_}
+use Prim.Native.Nat.{ℕ, suc, _≤_, _<_}
 use native.Mathlib.Nat.{le-trans}
 use native.Mathlib.Decide.{ℕ-discrete, decLe}
 use native.Mathlib.Omega.{arith}
-use Rattle.record.specs.declared.Answer.{Answer}
-use Rattle.record.specs.declared.Answer.the-variants.{New, Found, Full}
-use Rattle.rules.specs.Calls.{Call, Book, Holds, HasPixel, HasNode, Reads, ReadsRow, done, then, InOrder, empty, first}
+use Rattle.record.specs.declared.Answer.the-variants.{New, Full}
+use Rattle.rules.specs.Calls.{Call, Book, Holds, HasPixel, Reads, ReadsRow, done, then, InOrder, empty, first}
 use Rattle.rules.specs.Calls as calls
+use Rattle.rules.specs.Consequences.{Places}
 
 pub run-append : {b b₁ b₂ : Book} {xs ys : List Call} → ReadsRow b xs b₁ → ReadsRow b₁ ys b₂ → ReadsRow b (xs ++ ys) b₂
 run-append (done e) r = rw (← e) r
@@ -39,6 +39,33 @@ when-born {b} {b′} K (then {b₁ = b₁} {c = c} {cs = cs} a r) out has = by (
         dec : Dec (c .pixel ≡ K) → Born b K (c ∷ cs) b′
         dec (yes y) = born [] cs c b n refl e y (done refl) out (then a r)
         dec (no y) = extend (rec (λ h. split y (h .0) (List·Memᴰ·append-cases b (rw is at (h .1)))))
+
+-- what stands in the book stays
+read-keeps : {b b′ : Book} {c : Call} {K n : ℕ} → Reads b c b′ → Holds b K n → Holds b′ K n
+read-keeps {b} (calls.new m a o f is) i = rw is (Memᴰ·append-left _ i)
+read-keeps (calls.found m a j is) i = rw is i
+read-keeps (calls.full a o is) i = rw is i
+
+pub run-keeps : {b b′ : Book} {cs : List Call} {K n : ℕ} → ReadsRow b cs b′ → Holds b K n → Holds b′ K n
+run-keeps (done e) i = rw e i
+run-keeps (then a r) i = run-keeps r (read-keeps a i)
+
+-- the pixel and the node of a "new" or a "found" are in the book
+pub read-places : {b b′ : Book} {c : Call} {n : ℕ} → Reads b c b′ → Places c n → Holds b′ (c .pixel) n
+read-places {b} {c = c} {n = n} (calls.new m q o f is) (inl a) = let e : m ≡ n = cc in rw (is, e) (Memᴰ·append-right b (List·Memᴰ·head refl))
+read-places (calls.new m q o f is) (inr a) = let y : _≡_ {A = ℕ} 0 1 = cc in absurd (omega arith)
+read-places (calls.found m q i is) (inl a) = let y : _≡_ {A = ℕ} 0 1 = cc in absurd (omega arith)
+read-places {n = n} (calls.found m q i is) (inr a) = let e : m ≡ n = cc in rw is (rw e at i)
+read-places (calls.full q o is) (inl a) = let y : _≡_ {A = ℕ} 0 1 = cc in absurd (omega arith)
+read-places (calls.full q o is) (inr a) = let y : _≡_ {A = ℕ} 0 1 = cc in absurd (omega arith)
+
+pub places-in : {b b′ : Book} {cs : List Call} → ReadsRow b cs b′ → (c : Call) (n : ℕ) → List·Memᴰ c cs → Places c n → Holds b′ (c .pixel) n
+places-in (done e) c n i a = absurd (List·Memᴰ·not-nil i)
+places-in {b} {b′} (then {b₁ = b₁} {c = d} {cs = cs} k r) c n i a = by (List·Memᴰ·cases-cons i) (λ j. places-in r c n j a)
+  where
+    by : (c ≡ d) ⊎ List·Memᴰ c cs → (List·Memᴰ c cs → Holds b′ (c .pixel) n) → Holds b′ (c .pixel) n
+    by (inl e) f = rw e (run-keeps r (read-places k (rw e at a)))
+    by (inr j) f = f j
 
 -- No call stands after one that started when it had already ended
 abbrev pub Ordered : List Call → Type 0
@@ -150,4 +177,4 @@ row-full {row} {book} {seen} {now} r f t e a since fresh has = by (when-born (f 
 -- the same as document 01 says it
 pub in-order : (row : List Call) → Ordered row → InOrder row
 in-order [] o = empty
-in-order (c ∷ cs) o = first (λ d i (l : d .end < c .start). let h : c .start ≤ d .end = o .0 d i in omega arith) (in-order cs (o .1))
+in-order (c ∷ cs) o = first {c = c} (λ d i l. let h : c .start ≤ d .end = o .0 d i in omega arith) (in-order cs (o .1))

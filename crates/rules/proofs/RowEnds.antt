@@ -1,17 +1,14 @@
 -- The three ends of a call, read by the book of the row. The book's pairs are the placed nodes with their pixels.
 -- Relies on the row and its book, and on the theory's world.
 use mathlib.Core.Path.{_≡_, refl, sym, ap, ap₂, _∙_}
-use mathlib.Core.Logic.{_≢_, _⊎_, inl, inr}
+use mathlib.Core.Logic.{_⊎_, inl, inr}
 use mathlib.Core.List.{List, [], _∷_, _++_, append-nil, map, List·Memᴰ, List·Memᴰ·head, List·Memᴰ·tail, List·Memᴰ·not-nil, List·Memᴰ·cases-cons, Memᴰ·map, Memᴰ·of-map}
-use Prim.Native.Nat.{ℕ, zero, suc, _+_, _*_, _^_, _≤_, _<_}
+use Prim.Native.Nat.{ℕ, suc, _≤_}
 use native.Mathlib.Decide.{ℕ-discrete}
-use native.Mathlib.Omega.{arith}
-use lib.ListN.{length, take}
-use Rattle.trie.proofs.Digits.{Dims, top, digit}
+use lib.ListN.{take}
+use Rattle.trie.proofs.Digits.{Dims}
 use Rattle.trie.proofs.Lists.{_∈_}
-use Rattle.trie.proofs.Chain.{levelRef, nodeRef}
-use Rattle.trie.proofs.World.{World, Placed, Structure, Partition, Other}
-use Rattle.trie.proofs.Evolve.{Grows}
+use Rattle.trie.proofs.World.{World, Placed, Partition}
 use Rattle.trie.proofs.Search.{Unseen}
 use Rattle.trie.proofs.Place.{place, CanPlace}
 use Rattle.record.specs.declared.Answer.the-variants.{New, Found, Full}

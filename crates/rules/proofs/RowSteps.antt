@@ -1,27 +1,26 @@
 -- The row of calls beside the table: every event keeps it, whatever the call's end. Times count the events.
 -- Relies on the ends of calls and on the theory's world and workers.
-use mathlib.Core.Path.{_≡_, refl, sym, ap, ap₂, _∙_}
+use mathlib.Core.Path.{_≡_, refl, sym, ap, _∙_}
 use mathlib.Core.Logic.{_≢_, _⊎_, inl, inr}
-use mathlib.Core.List.{List, [], _∷_, _++_, List·Memᴰ, List·Memᴰ·head, List·Memᴰ·tail, List·Memᴰ·not-nil, List·Memᴰ·cases-cons, List·Memᴰ·append-cases, List·Memᴰ·eq-of-singleton, Memᴰ·append-left, Memᴰ·append-right}
-use Prim.Native.Nat.{ℕ, zero, suc, _+_, _*_, _^_, _≤_, _<_}
+use mathlib.Core.List.{List, [], _∷_, _++_, List·Memᴰ, List·Memᴰ·cases-cons, List·Memᴰ·append-cases, List·Memᴰ·eq-of-singleton, Memᴰ·append-left, Memᴰ·append-right}
+use Prim.Native.Nat.{ℕ, suc, _≤_, _<_}
 use native.Mathlib.Decide.{ℕ-discrete}
 use native.Mathlib.Omega.{arith}
 use lib.ListN.{length, length-append, take}
 use lib.Seq.{take-append-le, take-length}
-use Rattle.trie.proofs.Digits.{Dims, digit}
+use Rattle.trie.proofs.Digits.{Dims}
 use Rattle.trie.proofs.Update.{upd, upd-same, upd-other}
-use Rattle.trie.proofs.Lists.{_∈_, ∈-take}
+use Rattle.trie.proofs.Lists.{∈-take}
 use Rattle.trie.proofs.World.{World, Placed, Structure, Partition}
 use Rattle.trie.proofs.Evolve.{Grows, grows-refl}
 use Rattle.trie.proofs.Search.{Unseen}
 use Rattle.trie.proofs.Place.{place, CanPlace, place-grows}
 use Rattle.record.specs.declared.Answer.{Answer}
 use Rattle.record.specs.declared.Answer.the-variants.{New, Found, Full}
-use Rattle.rules.specs.Calls.{Call, Book, HasPixel, Reads, ReadsRow, done, then}
-use Rattle.rules.specs.Calls as calls
-use Rattle.rules.proofs.RowBook.{RowOk, Since, row-append}
+use Rattle.rules.specs.Calls.{Call, Book, HasPixel}
+use Rattle.rules.proofs.RowBook.{RowOk, Since, row-append, places-in}
 use Rattle.rules.proofs.RowEnds.{pairs, pairs-stay, bookOf, ends-new, ends-found, ends-full}
-use Rattle.trie.proofs.Whole.{Act, idle, Worker}
+use Rattle.trie.proofs.Whole.{idle, Worker}
 
 -- an open call of worker i
 pub record Open {δ : Dims} (w : World δ) (c : Worker) (row : List Call) (now start : ℕ) : Type 0 where
@@ -80,36 +79,13 @@ module _ {δ : Dims} {w w′ : World δ} (E : Grows w w′) (Q : Partition w) wh
 pub row-later : {row : List Call} {b b′ : Book} {now : ℕ} → b′ ≡ b → RowOk row b now → RowOk row b′ (suc now)
 row-later e r = record { run = rw e (r .run); ordered = r .ordered; late = r .late; past = λ c i. let p = r .past c i in (p .0, omega arith) }
 
--- what became new is in the book
-read-keeps : {b b′ : Book} {c : Call} {K : ℕ} → Reads b c b′ → HasPixel b K → HasPixel b′ K
-read-keeps {b} (calls.new n a o f is) (m, i) = (m, rw is (Memᴰ·append-left _ i))
-read-keeps (calls.found n a j is) h = rw is h
-read-keeps (calls.full a o is) h = rw is h
-
-run-keeps : {b b′ : Book} {cs : List Call} {K : ℕ} → ReadsRow b cs b′ → HasPixel b K → HasPixel b′ K
-run-keeps (done e) h = rw e h
-run-keeps (then a r) h = run-keeps r (read-keeps a h)
-
-pub new-has : {b b′ : Book} {cs : List Call} → ReadsRow b cs b′ → (c : Call) (n : ℕ) → List·Memᴰ c cs → c .answer ≡ New n → HasPixel b′ (c .pixel)
-new-has (done e) c n i a = absurd (List·Memᴰ·not-nil i)
-new-has {b} {b′} (then {b₁ = b₁} {c = d} {cs = cs} k r) c n i a = by (List·Memᴰ·cases-cons i) (λ j. new-has r c n j a)
-  where
-    first : Reads b d b₁ → c ≡ d → HasPixel b₁ (c .pixel)
-    first (calls.new m q o f is) e = (m, rw (is, e) (Memᴰ·append-right b (List·Memᴰ·head refl)))
-    first (calls.found m q j is) e = let z : New n ≡ Found m = sym a ∙ ap (λ x. x .answer) e ∙ q in let y : _≡_ {A = ℕ} 0 1 = cc in absurd (omega arith)
-    first (calls.full q o is) e = let z : New n ≡ Full = sym a ∙ ap (λ x. x .answer) e ∙ q in let y : _≡_ {A = ℕ} 0 1 = cc in absurd (omega arith)
-
-    by : (c ≡ d) ⊎ List·Memᴰ c cs → (List·Memᴰ c cs → HasPixel b′ (c .pixel)) → HasPixel b′ (c .pixel)
-    by (inl e) f = run-keeps r (first k e)
-    by (inr j) f = f j
-
 -- a call starts: worker i was idle
 pub rowed-start : {δ : Dims} {w : World δ} {workers : ℕ → Worker} {row : List Call} {now : ℕ} {starts : ℕ → ℕ} (R : Rowed w workers row now starts) (i : ℕ) (c : Worker) → c .since ≡ length (w .book) → Rowed w (upd workers i c) row (suc now) (upd starts i now)
 unfolding Since
 rowed-start {δ} {w} {workers} {row} {now} {starts} R i c e = record { rows = row-later refl (R .rows); open-calls = λ j b. by j b (ℕ-discrete j i) }
   where
     fresh : Open w c row (suc now) now
-    fresh = record { begun = omega arith; within = omega arith; since = λ d n k a l. rw (e, take-length (w .book)) (new-has (R .rows .run) d n k a) }
+    fresh = record { begun = omega arith; within = omega arith; since = λ d n k a l. rw (e, take-length (w .book)) (n, places-in (R .rows .run) d n k (inl a)) }
 
     by : (j : ℕ) → upd workers i c j .act ≢ idle → Dec (j ≡ i) → Open w (upd workers i c j) row (suc now) (upd starts i now j)
     by j b (yes q) = rw (q, upd-same workers i c, upd-same starts i now) fresh

@@ -1,17 +1,17 @@
 -- The row of calls over one event, and the list of ended calls that it is an order of.
 -- Relies on the steps of the row and on how a turn lets it go on.
-use Prim.Native.Nat.{ℕ, zero, suc, _+_, _≤_, _<_}
-use mathlib.Core.Path.{_≡_, refl, sym, ap, _∙_}
+use Prim.Native.Nat.{ℕ, suc}
+use mathlib.Core.Path.{_≡_, refl, ap}
 use mathlib.Core.Logic.{_≢_, inl}
-use mathlib.Core.List.{List, [], _∷_, _++_, append-nil, List·Memᴰ, List·Permᴰ, List·Permᴰ·cons, List·Permᴰ·trans, Permᴰ·refl, Permᴰ·symm, Permᴰ·middle, Permᴰ·append-right, Permᴰ·append-nil}
+use mathlib.Core.List.{List, [], _∷_, _++_, append-nil, List·Permᴰ, List·Permᴰ·cons, List·Permᴰ·trans, Permᴰ·symm, Permᴰ·middle, Permᴰ·append-right, Permᴰ·append-nil}
 use native.Mathlib.Omega.{arith}
+use lib.ListN.{length}
 use Rattle.record.specs.declared.Answer.{Answer}
 use Rattle.record.specs.declared.Answer.the-variants.{Nothing, New, Found, Full, Open}
-use Rattle.rules.specs.Calls.{Call, Opened, endedBy, endsWith}
+use Rattle.rules.specs.Calls.{Call, Opened, endedBy, endsWith, endingAnswer}
 use Rattle.trie.proofs.Digits.{Dims}
 use Rattle.trie.proofs.Update.{upd}
 use Rattle.trie.proofs.World.{World, Structure, Partition}
-use Rattle.trie.proofs.Evolve.{grows-refl}
 use Rattle.trie.proofs.Search.{Unseen}
 use Rattle.trie.proofs.Whole.{idle, Worker}
 use Rattle.rules.proofs.RowSteps.{Rowed, ended, rowed-step, rowed-new, rowed-found, rowed-full, row-later, book-stays}
@@ -20,6 +20,15 @@ use Rattle.rules.proofs.Invariant.{Rowing, goes, ends-new, ends-found}
 -- the newest start of worker i in the list is that of index k for pixel p
 pub record Newest (os : List Opened) (i k p : ℕ) : Type 0 where
   pub ends : (n : ℕ) (a : Answer) → endedBy i n a os ≡ record { start = k; end = n; pixel = p; answer = a } ∷ []
+
+-- so a turn of worker i ends one call or none, by its answer
+pub ends-one : {os : List Opened} {i k p : ℕ} → Newest os i k p → (n : ℕ) (a : Answer) → length (endsWith i n a os) ≡ endingAnswer a
+unfolding endsWith endingAnswer
+ends-one o n Nothing = refl
+ends-one o n (New m) = ap length (o .ends n (New m))
+ends-one o n (Found m) = ap length (o .ends n (Found m))
+ends-one o n Full = ap length (o .ends n Full)
+ends-one o n Open = refl
 
 -- one call more, at the end of the list and somewhere in the row
 pub perm-insert : {A : Type 0} {xs : List A} (a : A) (ys zs : List A) → List·Permᴰ xs (ys ++ zs) → List·Permᴰ (xs ++ (a ∷ [])) (ys ++ a ∷ zs)

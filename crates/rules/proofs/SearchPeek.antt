@@ -1,12 +1,9 @@
 -- Look and Tail: question 6 holds, and the next kind is that of the theory's peek.
 -- Relies on a worker that searches, on the theory's own turns of a search.
 use Prim.Native.Nat.{ℕ, _<_}
-use mathlib.Core.Path.{_≡_, refl, sym, _∙_}
+use mathlib.Core.Path.{_≡_, refl}
 use mathlib.Core.Bool.{true}
 use mathlib.Core.List.{[]}
-use lib.Dec.{eqb, ltb}
-use native.Mathlib.Omega.{arith}
-use borrow.Author.Tests.{ltb-true, ltb-false, eqb-true, eqb-false}
 use Rattle.words.proofs.Choice.{pick-both, both-true}
 use Rattle.settings.specs.declared.Settings.{Settings}
 use Rattle.areas.specs.Memory.{Memory, levelRef, cellAt}
@@ -14,23 +11,23 @@ use Rattle.record.specs.declared.Kind.the-variants.{Take, TakeTail, Level, Foll
 use Rattle.record.specs.Layout.{Record}
 use Rattle.rules.specs.Heads.{to}
 use Rattle.rules.specs.Steps.{going, expected, peeked, byCount}
-use Rattle.rules.specs.Searching.{look, tail}
+use Rattle.rules.specs.Searching.{entryOf, look, tail}
 use Rattle.rules.specs.Acts.{actBy}
 use Rattle.rules.specs.Asked.{readsBy, readsRef, looks, tails}
-use Rattle.trie.proofs.Digits.{digit, digit-lt}
 use Rattle.trie.proofs.Stand.{Pos, at-entry, at-node, passed}
-use Rattle.trie.proofs.Search.{peek, fetch, level, word, free, peek-fetch, peek-level}
+use Rattle.trie.proofs.Search.{peek, fetch, level, word, peek-fetch, peek-level}
 use Rattle.trie.proofs.Whole.{Worker}
-use Rattle.rules.proofs.Dims.{dims}
 use Rattle.rules.proofs.Matches.{byPos, searchKind, fetches, levels}
 use Rattle.rules.proofs.Invariant.{WorldOf, At, TurnOk}
-use Rattle.rules.proofs.Searcher.{Searcher, count-is, level-to, place-to, goes-to, goes-again, limit-pos, picks-ok, stands-ok, reads-ok, here-reads, other-reads}
+use Rattle.rules.proofs.Standing.{picks-ok, stands-ok, spot-ok, here-reads, other-reads, by-count}
+use Rattle.rules.proofs.Turned.{place-to, limit-pos}
+use Rattle.rules.proofs.Searcher.{Searcher, standing, level-to, goes-to, goes-again}
 
 module _ {w : ℕ} {s₀ s : Settings} {m : Memory} {W : WorldOf w s₀} {ws : ℕ → Worker} {i : ℕ} {r : Record} {a : At w s₀ s m W ws i r} {H : ℕ} where
   pub peek-asks : (x : Pos) → Searcher a (peek H x) H x → readsBy (searchKind (peek H x)) w s (r .head) (r .moves) m ≡ true
-  unfolding readsBy looks tails readsRef cellAt
-  peek-asks at-entry o = both-true (picks-ok o) (reads-ok o)
-  peek-asks (at-node R C) o = both-true (stands-ok o) (reads-ok o)
+  unfolding readsBy looks tails readsRef cellAt entryOf
+  peek-asks at-entry o = both-true (picks-ok a (standing o)) (spot-ok a (standing o))
+  peek-asks (at-node R C) o = both-true (stands-ok a (standing o)) (spot-ok a (standing o))
 
   -- H is read: a node is wanted
   goes-fetch : {x : Pos} (o : Searcher a (peek H x) H x) → word W (ws i .key) H x ≡ levelRef H → passed x < s₀ .limit → TurnOk w s₀ W ws i (going s (to (byPos Take TakeTail x) (r .head)) [] m)
@@ -38,29 +35,19 @@ module _ {w : ℕ} {s₀ s : Settings} {m : Memory} {W : WorldOf w s₀} {ws : �
       goes-to o {q = fetch H x} refl (fetches (level-to o (byPos Take TakeTail x)) (place-to (byPos Take TakeTail x) (o .place)))
       (peek-fetch (a .inv .structure) (a .inv .partition) (o .since-le) (o .search) q c)
 
-  -- H is read at a node: by its count; past the limit it is not read
+  -- at a node by its count
   goes-by-count : {R C : ℕ} (o : Searcher a (peek H (at-node R C)) H (at-node R C)) → word W (ws i .key) H (at-node R C) ≡ levelRef H → TurnOk w s₀ W ws i (going s (to (byCount s (r .head .count) TakeTail Level Follow) (r .head)) [] m)
-  unfolding byCount
   goes-by-count {R} {C} o q =
-      let S = a .inv .structure in
-      let Q = a .inv .partition in
-      let n = count-is (o .place) in
-      let l = a .table .same .limit-is in
-      let f = free S Q (o .search) q in
-      let short = S .slot H (digit (dims w (s₀ .limit)) (ws i .key) (W .tree .depth H)) (o .search .path .pub-at) (digit-lt (dims w (s₀ .limit)) (ws i .key) (W .tree .depth H)) .short in
-      pick-both (λ k. TurnOk w s₀ W ws i (going s (to k (r .head)) [] m)) (ltb (r .head .count) (s .limit))
-      (λ c. goes-fetch o q (omega (arith, ltb-true)))
-      (λ c. pick-both (λ k. TurnOk w s₀ W ws i (going s (to k (r .head)) [] m)) (eqb (r .head .count) (s .limit))
-      (λ d. goes-to o {q = level H (at-node R C)} refl (levels (level-to o Level) (place-to Level (o .place))) (peek-level S Q (o .search) q (sym n ∙ eqb-true _ _ d ∙ l)))
-      (λ d. absurd (eqb-false (r .head .count) (s .limit) d (omega (arith, ltb-false, f .count)))))
+      by-count a (standing o) (λ k. TurnOk w s₀ W ws i (going s (to k (r .head)) [] m)) TakeTail Level Follow q (goes-fetch o q)
+      (λ c. goes-to o {q = level H (at-node R C)} refl (levels (level-to o Level) (place-to Level (o .place))) (peek-level (a .inv .structure) (a .inv .partition) (o .search) q c))
 
   pub peek-turn : (x : Pos) → Searcher a (peek H x) H x → TurnOk w s₀ W ws i (actBy (searchKind (peek H x)) w s (r .head) (r .moves) m)
-  unfolding actBy look tail peeked cellAt
+  unfolding actBy look tail peeked cellAt entryOf
   peek-turn at-entry o =
       pick-both (λ k. TurnOk w s₀ W ws i (going s (to k (r .head)) [] m)) (expected (r .head) _)
-      (λ e. goes-fetch o (here-reads o e) (limit-pos o))
-      (λ e. goes-again o (other-reads o e))
+      (λ e. goes-fetch o (here-reads a (standing o) e) (limit-pos a))
+      (λ e. goes-again o (other-reads a (standing o) e))
   peek-turn (at-node R C) o =
       pick-both (λ k. TurnOk w s₀ W ws i (going s (to k (r .head)) [] m)) (expected (r .head) _)
-      (λ e. goes-by-count o (here-reads o e))
-      (λ e. goes-again o (other-reads o e))
+      (λ e. goes-by-count o (here-reads a (standing o) e))
+      (λ e. goes-again o (other-reads a (standing o) e))

@@ -19,17 +19,19 @@ use Rattle.rules.specs.Asked as asked
 use Rattle.trie.proofs.Digits.{digit}
 use Rattle.trie.proofs.Fresh.{fresh-keep}
 use Rattle.trie.proofs.Place.{place, place-grows}
-use Rattle.trie.proofs.Stand.{Pos, at-entry, at-node}
-use Rattle.trie.proofs.Search.{put, Local, puts, word, free, put-done}
+use Rattle.trie.proofs.World.{lastCell}
+use Rattle.trie.proofs.Stand.{Pos, at-entry, at-node, cellOf}
+use Rattle.trie.proofs.Search.{put, Local, puts, word, put-done}
 use Rattle.trie.proofs.Levels.{levels-stay}
 use Rattle.trie.proofs.Whole.{idle, Worker, is-searching, owner}
 use Rattle.trie.proofs.Turns as turns
 use Rattle.rules.proofs.Dims.{dims}
-use Rattle.rules.proofs.Words.{shows-cell}
 use Rattle.rules.proofs.Matches.{byPos, searchKind, rests}
 use Rattle.rules.proofs.Invariant.{WorldOf, At, TurnOk, ends-new}
-use Rattle.rules.proofs.SearchHolds.{node-owned, node-hand-ok}
-use Rattle.rules.proofs.Searcher.{Searcher, placeCell, picks-ok, stands-ok, place-cell, place-taken, here-reads, other-reads, goes-again}
+use Rattle.rules.proofs.Holding.{node-owned, node-hand-ok}
+use Rattle.rules.proofs.Standing.{spot, picks-ok, stands-ok, spot-cell, spot-taken, here-reads, other-reads, ends-here}
+use Rattle.rules.proofs.Turned.{table-with, written}
+use Rattle.rules.proofs.Searcher.{Searcher, standing, goes-again}
 
 module _ {w : ℕ} {s₀ s : Settings} {m : Memory} {W : WorldOf w s₀} {ws : ℕ → Worker} {i : ℕ} {r : Record} {a : At w s₀ s m W ws i r} {H n : ℕ} where
   -- the node in hand
@@ -38,11 +40,11 @@ module _ {w : ℕ} {s₀ s : Settings} {m : Memory} {W : WorldOf w s₀} {ws : �
 
   pub put-asks : (x : Pos) → Searcher a (put H x n) H x → Local W (owner i) (ws i .key) (ws i .since) (put H x n) → asked.readsBy (searchKind (put H x n)) w s (r .head) (r .moves) m ≡ true
   unfolding asked.readsBy asked.puts asked.appends
-  put-asks at-entry o l = both-true (picks-ok o) (node-hand-ok a (in-hand o l))
-  put-asks (at-node R C) o l = both-true (stands-ok o) (node-hand-ok a (in-hand o l))
+  put-asks at-entry o l = both-true (picks-ok a (standing o)) (node-hand-ok a (in-hand o l))
+  put-asks (at-node R C) o l = both-true (stands-ok a (standing o)) (node-hand-ok a (in-hand o l))
 
   -- done
-  put-new : {x : Pos} (o : Searcher a (put H x n) H x) (l : Local W (owner i) (ws i .key) (ws i .since) (put H x n)) → word W (ws i .key) H x ≡ levelRef H → TurnOk w s₀ W ws i (step (New n) s (ended 1 n 0 (r .head)) [] (setCell w m (placeCell w (r .head) (m .levels) x) (nodeRef n)))
+  put-new : {x : Pos} (o : Searcher a (put H x n) H x) (l : Local W (owner i) (ws i .key) (ws i .since) (put H x n)) → word W (ws i .key) H x ≡ levelRef H → TurnOk w s₀ W ws i (step (New n) s (ended 1 n 0 (r .head)) [] (setCell w m (spot w (r .head) (r .head .pixel) (m .levels) x) (nodeRef n)))
   unfolding ended
   put-new {x} o l q =
       let S = a .inv .structure in
@@ -54,16 +56,7 @@ module _ {w : ℕ} {s₀ s : Settings} {m : Memory} {W : WorldOf w s₀} {ws : �
       record {
         world = place W H e n;
         worker = c;
-        table = record {
-          width = a .table .width;
-          ranges = a .table .ranges;
-          same = a .table .same;
-          shows = rw (place-cell o, free S (a .inv .partition) (o .search) q .last) (shows-cell (a .table .shows) _ (nodeRef n) (place-taken o));
-          nodes-fresh = fresh-keep (a .table .nodes-fresh) n 0 (node-owned a hand) (λ y. omega arith);
-          levels-fresh = a .table .levels-fresh;
-          nodes-le = a .table .nodes-le;
-          levels-le = a .table .levels-le;
-        };
+        table = table-with (a .table) (setCell w m (spot w (r .head) (r .head .pixel) (m .levels) x) (nodeRef n)) (place W H e n) (rw (spot-cell a (standing o)) (written (a .table) (cellOf H e x) (lastCell W H e) (nodeRef n) (ends-here a (standing o) q .last) (spot-taken a (standing o)))) (fresh-keep (a .table .nodes-fresh) n 0 (node-owned a hand) (λ y. omega arith)) (a .table .levels-fresh);
         inv = turns.put-turn (a .inv) i (is-searching (o .small) (o .since-le) l) hand q;
         levels = levels-stay (a .levels) i (a .here) c E refl;
         matches = record { pixel-is = a .matches .pixel-is; node-is = refl; level-is = a .matches .level-is; doing = rests refl refl (omega arith) };
@@ -73,15 +66,15 @@ module _ {w : ℕ} {s₀ s : Settings} {m : Memory} {W : WorldOf w s₀} {ws : �
       pixel-of : Local W (owner i) (ws i .key) (ws i .since) (put H x n) → W .pixel n ≡ ws i .key
       pixel-of (puts k c mine p t) = p
 
-  exchanged : {x : Pos} (o : Searcher a (put H x n) H x) → Local W (owner i) (ws i .key) (ws i .since) (put H x n) → TurnOk w s₀ W ws i (spec.placed w (byPos Read Follow x) s (r .head) (placeCell w (r .head) (m .levels) x) m)
+  exchanged : {x : Pos} (o : Searcher a (put H x n) H x) → Local W (owner i) (ws i .key) (ws i .since) (put H x n) → TurnOk w s₀ W ws i (spec.placed w (byPos Read Follow x) s (r .head) (spot w (r .head) (r .head .pixel) (m .levels) x) m)
   unfolding spec.placed
   exchanged {x} o l =
       let h : r .head .«held_node» - 1 ≡ n = omega (arith, a .matches .node-is, in-hand o l) in
-      pick-both (TurnOk w s₀ W ws i) (expected (r .head) (cellAt w m (placeCell w (r .head) (m .levels) x)))
-      (λ e. subst (λ k. TurnOk w s₀ W ws i (step (New k) s (ended 1 k 0 (r .head)) [] (setCell w m (placeCell w (r .head) (m .levels) x) (nodeRef k)))) (sym h) (put-new o l (here-reads o e)))
-      (λ e. goes-again o (other-reads o e))
+      pick-both (TurnOk w s₀ W ws i) (expected (r .head) (cellAt w m (spot w (r .head) (r .head .pixel) (m .levels) x)))
+      (λ e. subst (λ k. TurnOk w s₀ W ws i (step (New k) s (ended 1 k 0 (r .head)) [] (setCell w m (spot w (r .head) (r .head .pixel) (m .levels) x) (nodeRef k)))) (sym h) (put-new o l (here-reads a (standing o) e)))
+      (λ e. goes-again o (other-reads a (standing o) e))
 
   pub put-turn : (x : Pos) (o : Searcher a (put H x n) H x) → Local W (owner i) (ws i .key) (ws i .since) (put H x n) → TurnOk w s₀ W ws i (actBy (searchKind (put H x n)) w s (r .head) (r .moves) m)
-  unfolding actBy spec.put spec.append
+  unfolding actBy spec.put spec.append spec.entryOf
   put-turn at-entry o l = exchanged o l
   put-turn (at-node R C) o l = exchanged o l

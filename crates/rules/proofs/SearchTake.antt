@@ -31,8 +31,10 @@ use Rattle.trie.proofs.Turns as turns
 use Rattle.rules.proofs.Words.{shows-node}
 use Rattle.rules.proofs.Matches.{byPos, searchKind, puts, searches}
 use Rattle.rules.proofs.Invariant.{WorldOf, SameSizes, At, TurnOk, goes}
-use Rattle.rules.proofs.SearchHolds.{node-owner, node-owned, spare-node-ok}
-use Rattle.rules.proofs.Searcher.{Searcher, still-open, place-as, level-ok}
+use Rattle.rules.proofs.Holding.{node-owner, node-owned, spare-node-ok}
+use Rattle.rules.proofs.Standing.{level-ok}
+use Rattle.rules.proofs.Turned.{still-searching, place-as}
+use Rattle.rules.proofs.Searcher.{Searcher, standing}
 
 -- question 9 is asked of these kinds: a worker that holds no node finds one left
 takes-node : (H : ℕ) (x : Pos) → takesNode (searchKind (fetch H x)) ≡ true
@@ -47,8 +49,8 @@ node-left s r q t none = ltb-true _ _ (sym (pick-true _ _ _ (eq-eqb _ _ none)) �
 module _ {w : ℕ} {s₀ s : Settings} {m : Memory} {W : WorldOf w s₀} {ws : ℕ → Worker} {i : ℕ} {r : Record} {a : At w s₀ s m W ws i r} {H : ℕ} where
   pub fetch-asks : (x : Pos) → Searcher a (fetch H x) H x → readsBy (searchKind (fetch H x)) w s (r .head) (r .moves) m ≡ true
   unfolding readsBy takes
-  fetch-asks at-entry o = both-true (level-ok o) (spare-node-ok a)
-  fetch-asks (at-node R C) o = both-true (level-ok o) (spare-node-ok a)
+  fetch-asks at-entry o = both-true (level-ok a (standing o)) (spare-node-ok a)
+  fetch-asks (at-node R C) o = both-true (level-ok a (standing o)) (spare-node-ok a)
 
   -- node n is written and in hand; the settings s′ count it
   with-node : {x : Pos} (o : Searcher a (fetch H x) H x) → Local W (owner i) (ws i .key) (ws i .since) (fetch H x) → (s′ : Settings) (n : ℕ) → SameSizes s₀ s′ → s′ .«levels_taken» ≡ s .«levels_taken» → Fresh (upd (W .nodeOwner) n (owner i)) (s′ .«nodes_taken») → s′ .«nodes_taken» ≤ s₀ .nodes → W .nodeOwner n ≢ 0 → ((j : ℕ) → j ≢ i → W .nodeOwner n ≢ owner j) → (ws i .node ≡ 0) ⊎ (ws i .node ≡ suc n) → TurnOk w s₀ W ws i (withNode (byPos Put Append x) s′ (r .head) n m)
@@ -75,7 +77,7 @@ module _ {w : ℕ} {s₀ s : Settings} {m : Memory} {W : WorldOf w s₀} {ws : �
         inv = turns.fetch-turn (a .inv) i (is-searching (o .small) (o .since-le) l) free others had;
         levels = rw e (levels-stay (a .levels) i (a .here) c E refl);
         matches = record { pixel-is = a .matches .pixel-is; node-is = add-one n; level-is = a .matches .level-is; doing = searches refl refl (puts (o .level-is) (place-as refl refl (o .place))) };
-        rowing = goes E refl still-open refl refl;
+        rowing = goes E refl still-searching refl refl;
       }
 
   -- the next number, which question 9 has left

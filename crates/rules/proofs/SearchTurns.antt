@@ -1,25 +1,28 @@
 -- The ten searching kinds of turn over the words: question 6 holds, and what the turn does is an effect of the theory and the worker's next clause.
 -- Relies on what a turn reads and on the theory's turns of a search.
-use Prim.Native.Nat.{ℕ}
+use Prim.Native.Nat.{ℕ, _≤_, _<_, _^_}
 use mathlib.Core.Path.{_≡_}
 use mathlib.Core.Bool.{true}
+use lib.ListN.{length}
+use Rattle.words.specs.Digits.{base, depths}
 use Rattle.settings.specs.declared.Settings.{Settings}
 use Rattle.areas.specs.Memory.{Memory}
 use Rattle.record.specs.Layout.{Record}
 use Rattle.rules.specs.Acts.{act}
 use Rattle.rules.specs.Asked.{readsBy, question9}
 use Rattle.trie.proofs.Search as clause
-use Rattle.trie.proofs.Search.{Phase, peek, fetch, put, again, level, shut}
+use Rattle.trie.proofs.Stand.{Pos}
+use Rattle.trie.proofs.Search.{Phase, Searching, peek, fetch, put, again, level, shut}
 use Rattle.trie.proofs.Whole.{Worker, searching, ActOk, is-searching, owner}
-use Rattle.rules.proofs.Matches.{peeks, fetches, puts, agains, levels, shuts, Doing, searches}
+use Rattle.rules.proofs.Matches.{searchKind, Place, peeks, fetches, puts, agains, levels, shuts, Doing, searches}
 use Rattle.rules.proofs.Invariant.{WorldOf, At, TurnOk}
-use Rattle.rules.proofs.Searcher.{Searcher, turn-by, asks-by}
+use Rattle.rules.proofs.Turned.{turn-by, asks-by}
+use Rattle.rules.proofs.Searcher.{Searcher}
 use Rattle.rules.proofs.SearchPeek.{peek-asks, peek-turn}
 use Rattle.rules.proofs.SearchTake.{fetch-asks, fetch-turn}
 use Rattle.rules.proofs.SearchPut.{put-asks, put-turn}
 use Rattle.rules.proofs.SearchAgain.{again-asks, again-turn}
-use Rattle.rules.proofs.SearchLevel.{level-asks, level-turn}
-use Rattle.rules.proofs.SearchClose.{shut-asks, shut-turn}
+use Rattle.rules.proofs.SearchLevels.{level-asks, level-turn, shut-asks, shut-turn}
 
 module _ {w : ℕ} {s₀ s : Settings} {m : Memory} {W : WorldOf w s₀} {ws : ℕ → Worker} {i : ℕ} {r : Record} (a : At w s₀ s m W ws i r) where
   -- question 6 holds of the turn, and after question 9 the turn is as it has to be
@@ -27,25 +30,28 @@ module _ {w : ℕ} {s₀ s : Settings} {m : Memory} {W : WorldOf w s₀} {ws : �
     asks : readsBy (r .head .kind) w s (r .head) (r .moves) m ≡ true
     turn : question9 s r ≡ true → TurnOk w s₀ W ws i (act w s r m)
 
+  searcher : (p : Phase) {H : ℕ} {x : Pos} → r .head .kind ≡ searchKind p → r .head .level ≡ H → Place (r .head) x → ws i .key < base w ^ depths w → ws i .since ≤ length (W .book) → Searching W (ws i .key) H x → Searcher a p H x
+  searcher p k g d small b c = record { kind-is = k; level-is = g; place = d; small = small; since-le = b; search = c }
+
   -- by the phase, of which the record has the kind and the numbers, and the theory the clause
   by-phase : (p : Phase) → Doing (r .head) (r .moves) (searching p) → ActOk W (owner i) (ws i .key) (ws i .since) (searching p) → Turns
   by-phase (peek H x) (searches k n (peeks g d)) (is-searching small b (clause.peeks c)) =
-      let o : Searcher a (peek H x) H x = record { kind-is = k; level-is = g; place = d; small = small; since-le = b; search = c } in
+      let o = searcher (peek H x) k g d small b c in
       record { asks = asks-by a k (peek-asks x o); turn = λ q. turn-by a k (peek-turn x o) }
   by-phase (fetch H x) (searches k n (fetches g d)) (is-searching small b (clause.fetches c l u)) =
-      let o : Searcher a (fetch H x) H x = record { kind-is = k; level-is = g; place = d; small = small; since-le = b; search = c } in
+      let o = searcher (fetch H x) k g d small b c in
       record { asks = asks-by a k (fetch-asks x o); turn = λ q. turn-by a k (fetch-turn x o (clause.fetches c l u) q) }
   by-phase (put H x j) (searches k n (puts g d)) (is-searching small b (clause.puts c l v p t)) =
-      let o : Searcher a (put H x j) H x = record { kind-is = k; level-is = g; place = d; small = small; since-le = b; search = c } in
+      let o = searcher (put H x j) k g d small b c in
       record { asks = asks-by a k (put-asks x o (clause.puts c l v p t)); turn = λ q. turn-by a k (put-turn x o (clause.puts c l v p t)) }
   by-phase (again H x) (searches k n (agains g d)) (is-searching small b (clause.reads c y)) =
-      let o : Searcher a (again H x) H x = record { kind-is = k; level-is = g; place = d; small = small; since-le = b; search = c } in
+      let o = searcher (again H x) k g d small b c in
       record { asks = asks-by a k (again-asks x o (clause.reads c y)); turn = λ q. turn-by a k (again-turn x o (clause.reads c y)) }
   by-phase (level H x) (searches k n (levels g d)) (is-searching small b (clause.levels c l y)) =
-      let o : Searcher a (level H x) H x = record { kind-is = k; level-is = g; place = d; small = small; since-le = b; search = c } in
+      let o = searcher (level H x) k g d small b c in
       record { asks = asks-by a k (level-asks o (clause.levels c l y)); turn = λ q. turn-by a k (level-turn o (clause.levels c l y)) }
   by-phase (shut H x G) (searches k n (shuts g d f)) (is-searching small b (clause.shuts c l y t)) =
-      let o : Searcher a (shut H x G) H x = record { kind-is = k; level-is = g; place = d; small = small; since-le = b; search = c } in
+      let o = searcher (shut H x G) k g d small b c in
       record { asks = asks-by a k (shut-asks o (clause.shuts c l y t)); turn = λ q. turn-by a k (shut-turn o (clause.shuts c l y t)) }
 
   turns : (p : Phase) → ws i .act ≡ searching p → Turns

@@ -1,12 +1,11 @@
 -- Along any sequence of starts and turns: what holds before an event holds after it.
 -- Relies on the events of a start and of a turn.
-use Prim.Native.Nat.{ℕ, zero, suc, _+_, _≤_, _<_}
-use mathlib.Core.Path.{_≡_, refl, sym, ap, _∙_}
-use mathlib.Core.Logic.{_≢_, _⊎_, inl, inr}
+use Prim.Native.Nat.{ℕ, suc, _<_}
+use mathlib.Core.Path.{_≡_, refl, sym, _∙_}
+use mathlib.Core.Logic.{_⊎_, inl, inr}
 use mathlib.Core.Bool.{true}
 use mathlib.Core.List.{List, [], _∷_, _++_, append-nil, append-assoc}
-use native.Mathlib.Omega.{arith}
-use lib.Dec.{eqb, ltb, leb}
+use lib.ListN.{length, length-append}
 use borrow.Author.Tests.{ltb-true, eq-eqb}
 use Rattle.words.proofs.Choice.{both-right, pick-true}
 use Rattle.settings.specs.Sizes.{levelCount}
@@ -19,13 +18,13 @@ use Rattle.record.specs.Layout.{Record}
 use Rattle.rules.specs.Asked.{readsBy, takesLevel, levelLeft, question6}
 use Rattle.rules.specs.Operations.{recordOf, memoryOf}
 use Rattle.rules.specs.Lists.{State, after}
-use Rattle.rules.specs.Calls.{Event, starts, turns, happens, Happened, history, stateAfter, Call, Opened, opens, ends, callsFrom}
+use Rattle.rules.specs.Calls.{Event, starts, turns, happens, history, stateAfter, Call, Opened, opens, ends, callsFrom, ending, endings}
 use Rattle.rules.specs.Demands.{EventOk, LevelLeft}
 use Rattle.rules.proofs.Invariant.{at}
 use Rattle.rules.proofs.Asking.{asks-ok}
 use Rattle.rules.proofs.Along.{Along}
 use Rattle.rules.proofs.StartEvent.{start-along, start-event}
-use Rattle.rules.proofs.TurnEvent.{turn-along, turn-event}
+use Rattle.rules.proofs.TurnEvent.{turn-along, turn-ends, turn-event}
 
 -- question 6 of Level and SetLevel with nothing spare
 level-left : (w : ℕ) (s : Settings) (h : Head) (levels : List ℕ) → h .«held_level» ≡ 0 → takesLevel w s h levels ≡ true → s .«levels_taken» < levelCount w s
@@ -43,6 +42,12 @@ module _ {w : ℕ} {s₀ : Settings} {x : State} {k : ℕ} {os : List Opened} {c
   unfolding happens
   event-along (starts i row column) = start-along a i row column
   event-along (turns i) = turn-along a i
+
+  -- the calls that the event ended
+  event-ends : (e : Event) → length (ends e k (happens w e x .reply) os) ≡ ending e (happens w e x .reply)
+  unfolding happens ends ending
+  event-ends (starts i row column) = refl
+  event-ends (turns i) = turn-ends a i
 
   pub event-ok : (e : Event) → EventOk w e x
   event-ok (starts i row column) = start-event a i row column
@@ -74,3 +79,9 @@ pub run-along : {w : ℕ} {s₀ : Settings} (es : List Event) (x : State) (k : �
 run-along [] x k os cs a = run-none a
 run-along {w} {s₀} (e ∷ es) x k os cs a =
     run-more w s₀ e es x k os cs (run-along es (after (happens w e x)) (suc k) (opens e k (happens w e x .reply) os) (cs ++ ends e k (happens w e x .reply) os) (event-along a e))
+
+-- each turn answered "new", "found" or "full" ended one call
+pub run-ends : {w : ℕ} {s₀ : Settings} (es : List Event) (x : State) {k : ℕ} {os : List Opened} {cs : List Call} → Along w s₀ x k os cs → length (callsFrom k os (history w es x)) ≡ endings (history w es x)
+unfolding history callsFrom endings
+run-ends [] x a = refl
+run-ends {w} (e ∷ es) x {k} {os} a = rw (length-append, event-ends a e, run-ends es (after (happens w e x)) (event-along a e)) refl

@@ -1,31 +1,28 @@
 -- The event of a start: what it leaves holds along the sequence; it is not answered 6 or "full".
 -- Relies on the start that is carried out and on demand 1 of a start.
-use Prim.Native.Nat.{ℕ, zero, suc, _<_}
+use Prim.Native.Nat.{ℕ, suc}
 use mathlib.Core.Path.{_≡_, refl, sym, ap, _∙_}
 use mathlib.Core.Logic.{_≢_}
-use mathlib.Core.Bool.{Bool, true, false}
 use mathlib.Core.List.{List, [], _∷_, _++_, append-nil}
 use native.Mathlib.Decide.{ℕ-discrete}
 use native.Mathlib.Omega.{arith}
-use lib.Dec.{eqb}
-use borrow.Author.Tests.{eq-eqb, ne-eqb, ltb-true}
+use borrow.Author.Tests.{eq-eqb, ne-eqb}
 use Rattle.words.specs.Choice.{firstNo}
 use Rattle.words.specs.Digits.{pixelNumber}
 use Rattle.words.proofs.Choice.{pick-true, pick-false}
 use Rattle.settings.specs.declared.Settings.{Settings}
-use Rattle.record.specs.declared.Answer.{Answer}
 use Rattle.record.specs.declared.Answer.the-variants.{Nothing, Full, Open}
-use Rattle.rules.specs.Asked.{question4, question6Record}
-use Rattle.rules.specs.Operations.{Result, refused, recordOf, start, startQuestions}
-use Rattle.rules.specs.Lists.{State, state, after}
-use Rattle.rules.specs.Calls.{Call, Opened, Event, starts, happens, opens, ends}
+use Rattle.rules.specs.Asked.{question6Record}
+use Rattle.rules.specs.Operations.{Result, start, startQuestions}
+use Rattle.rules.specs.Lists.{State, after}
+use Rattle.rules.specs.Calls.{Call, Opened, starts, happens, opens, ends}
 use Rattle.rules.specs.Demands.{EventOk}
-use Rattle.rules.proofs.Questions.{first-later, first-yes, unless-number}
+use Rattle.rules.proofs.Questions.{first-later, first-yes, none-given, unless-number}
 use Rattle.rules.proofs.Carried.{start-done}
 use Rattle.rules.proofs.Refused.{refuses-start}
 use Rattle.rules.proofs.Invariant.{at}
 use Rattle.rules.proofs.Fitting.{fits-ok}
-use Rattle.rules.proofs.Along.{Along, along-waits}
+use Rattle.rules.proofs.Along.{Along, below, along-waits}
 use Rattle.rules.proofs.Starting.{start-yes, opened-start}
 
 -- no call opens where the start is refused
@@ -45,15 +42,7 @@ start-number : (w : ℕ) (x : State) (i row column : ℕ) → start w (x .settin
 unfolding start
 start-number w x i row column = unless-number (x .settings) (x .areas) _ _ refl
 
-none-six : firstNo [] ≢ 6
-unfolding firstNo
-none-six z = omega arith
-
 module _ {w : ℕ} {s₀ : Settings} {x : State} {k : ℕ} {os : List Opened} {cs : List Call} (a : Along w s₀ x k os cs) (i row column : ℕ) where
-  below : question4 (x .settings) i ≡ true → i < s₀ .workers
-  unfolding question4
-  below q = let l : i < x .settings .workers = ltb-true _ _ q in rw (a .fine .table .same .workers-is) at l
-
   -- the record of a worker of the table fits
   start-not-6 : start w (x .settings) i row column (x .areas) .reply .number ≢ 6
   unfolding startQuestions question6Record
@@ -63,9 +52,9 @@ module _ {w : ℕ} {s₀ : Settings} {x : State} {k : ℕ} {os : List Opened} {c
       let (y₃, e₃) = first-later 3 _ _ (λ z. omega arith) e₂ in
       let (y₄, e₄) = first-later 4 _ _ (λ z. omega arith) e₃ in
       let (y₅, e₅) = first-later 5 _ _ (λ z. omega arith) e₄ in
-      let f = fits-ok (at (a .fine) i (below y₄)) in
+      let f = fits-ok (at (a .fine) i (below a y₄)) in
       let (y₇, e₇) = first-later 7 _ _ (λ z. omega arith) (sym (first-yes 6 _ f) ∙ e₅) in
-      none-six e₇
+      none-given (λ z. omega arith) e₇
 
   -- by the number: the call opens, or nothing happens
   pub start-along : Along w s₀ (after (start w (x .settings) i row column (x .areas))) (suc k) (opens (starts i row column) k (start w (x .settings) i row column (x .areas) .reply) os) (cs ++ ends (starts i row column) k (start w (x .settings) i row column (x .areas) .reply) os)

@@ -1,28 +1,26 @@
 -- A start along a sequence: a call opens, or nothing happens; 6 is not given.
 -- Relies on what holds along a sequence, on demand 1 of a start, and on that a stored record keeps the state fine.
-use Prim.Native.Nat.{ℕ, zero, suc, _+_, _*_, _^_, _≤_, _<_}
-use mathlib.Core.Path.{_≡_, refl, sym, ap, _∙_}
-use mathlib.Core.Logic.{_≢_, _⊎_, inl, inr}
-use mathlib.Core.Bool.{Bool, true, false}
-use mathlib.Core.List.{List, [], _∷_, _++_, append-nil}
+use Prim.Native.Nat.{ℕ, suc, _^_, _≤_, _<_}
+use mathlib.Core.Path.{_≡_, refl, sym}
+use mathlib.Core.Logic.{_≢_}
+use mathlib.Core.Bool.{true}
+use mathlib.Core.List.{List, _∷_}
 use native.Mathlib.Decide.{ℕ-discrete}
 use native.Mathlib.Omega.{arith}
-use lib.Dec.{eqb, leb, ltb}
+use lib.Dec.{leb}
 use lib.ListN.{length}
-use borrow.Author.Tests.{eq-eqb, ne-eqb, ltb-true, leb-true}
-use Rattle.words.specs.Choice.{both, every, firstNo}
-use Rattle.words.specs.Digits.{base, depths, pixelNumber, maxPixel, maxSide}
-use Rattle.words.proofs.Choice.{both-left, both-right, pick-true, pick-false}
+use borrow.Author.Tests.{leb-true}
+use Rattle.words.specs.Choice.{every}
+use Rattle.words.specs.Digits.{base, depths, pixelNumber, maxPixel}
+use Rattle.words.proofs.Choice.{both-left, both-right}
 use Rattle.settings.specs.declared.Settings.{Settings}
 use Rattle.areas.specs.Memory.{areas}
-use Rattle.record.specs.declared.Kind.the-variants.{Look}
-use Rattle.record.specs.Layout.{Record, record′, load}
 use Rattle.rules.specs.Heads.{started}
-use Rattle.rules.specs.Asked.{question4, question5, question6Record, question7}
-use Rattle.rules.specs.Operations.{Result, recordOf, memoryOf, start, startQuestions, startedAreas, question2Of}
-use Rattle.rules.specs.Lists.{State, state, after}
-use Rattle.rules.specs.Calls.{Call, Opened, starts, happens, opens, ends}
-use Rattle.rules.specs.Refusals.{FirstNo, here, later, AllYes}
+use Rattle.rules.specs.Asked.{question4, question5, question7}
+use Rattle.rules.specs.Operations.{recordOf, startQuestions, startedAreas}
+use Rattle.rules.specs.Lists.{State, state}
+use Rattle.rules.specs.Calls.{Call, Opened, starts}
+use Rattle.rules.specs.Refusals.{AllYes}
 use Rattle.trie.proofs.Update.{upd, upd-same, upd-other}
 use Rattle.trie.proofs.Evolve.{grows-refl}
 use Rattle.trie.proofs.Stand.{at-entry}
@@ -30,16 +28,12 @@ use Rattle.trie.proofs.Search.{peek}
 use Rattle.trie.proofs.Search as search
 use Rattle.trie.proofs.Levels.{levels-stay}
 use Rattle.trie.proofs.Whole.{idle, searching, Worker, is-searching, stay-step}
-use Rattle.rules.proofs.Carried.{start-done}
-use Rattle.rules.proofs.Refused.{refuses-start}
 use Rattle.rules.proofs.RowSteps.{rowed-start}
-use Rattle.rules.proofs.RowTurns.{Newest, RowAfter}
-use Rattle.rules.proofs.Matches.{Matches, entry, peeks, searches}
-use Rattle.rules.proofs.Invariant.{WorldOf, Table, Fine, at}
-use Rattle.rules.proofs.Idle.{idle-acts}
-use Rattle.rules.proofs.Fitting.{fits-ok}
+use Rattle.rules.proofs.RowTurns.{Newest}
+use Rattle.rules.proofs.Matches.{entry, peeks, searches}
+use Rattle.rules.proofs.Invariant.{at}
 use Rattle.rules.proofs.Stored.{fine-after}
-use Rattle.rules.proofs.Along.{Along, along-waits, newest-first, newest-past}
+use Rattle.rules.proofs.Along.{Along, below, newest-first, newest-past}
 
 -- the yes of a start's questions
 pub record StartYes (w : ℕ) (s : Settings) (i row column : ℕ) (x : State) : Type 0 where
@@ -71,10 +65,10 @@ begun c p b = record { key = p; since = b; node = c .node; level = c .level; act
 
 module _ {w : ℕ} {s₀ : Settings} {x : State} {k : ℕ} {os : List Opened} {cs : List Call} (a : Along w s₀ x k os cs) (i row column : ℕ) where
   pub opened-start : StartYes w (x .settings) i row column x → Along w s₀ (state (x .settings) (startedAreas w i row column (x .areas))) (suc k) (record { worker = i; index = k; pixel = pixelNumber row column } ∷ os) cs
-  unfolding startedAreas started question4
+  unfolding startedAreas started
   opened-start y =
       let F = a .fine in
-      let h : i < s₀ .workers = below (y .below) in
+      let h : i < s₀ .workers = below a (y .below) in
       let K = at F i h .matches in
       let small : pixelNumber row column < base w ^ depths w = rw (F .table .width .all) (pixel-le (y .inside)) in
       let I = stay-step (F .inv) i c (record {
@@ -94,9 +88,6 @@ module _ {w : ℕ} {s₀ : Settings} {x : State} {k : ℕ} {os : List Opened} {c
     where
       c : Worker
       c = begun (a .workers i) (pixelNumber row column) (length (a .world .book))
-
-      below : question4 (x .settings) i ≡ true → i < s₀ .workers
-      below q = let l : i < x .settings .workers = ltb-true _ _ q in rw (a .fine .table .same .workers-is) at l
 
       pixel-le : question5 row column ≡ true → pixelNumber row column < suc maxPixel
       pixel-le q = let e = pixel-small row column q in omega arith

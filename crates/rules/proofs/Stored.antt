@@ -1,26 +1,24 @@
 -- A worker's record is stored: the state after it is fine, the other workers' records stay.
 -- Relies on the laws of load and store, and on that a record of the invariant is well formed.
-use Prim.Native.Nat.{ℕ, zero, suc, _+_, _*_, _≤_, _<_}
-use mathlib.Core.Path.{_≡_, refl, sym, ap, _∙_}
-use mathlib.Core.Logic.{_≢_}
+use Prim.Native.Nat.{ℕ, _+_, _*_, _≤_, _<_}
+use mathlib.Core.Path.{_≡_}
 use mathlib.Core.List.{List}
 use native.Mathlib.Decide.{ℕ-discrete}
 use native.Mathlib.Omega.{arith}
 use lib.ListN.{length}
 use Rattle.settings.specs.Sizes.{workerWords, maxMoves}
 use Rattle.settings.specs.declared.Settings.{Settings}
-use Rattle.areas.specs.Memory.{Memory, memory, Areas, areas}
+use Rattle.areas.specs.Memory.{Memory, areas}
 use Rattle.record.specs.Layout.{Record, load, store, movesAt}
 use Rattle.record.proofs.Records.{WellFormed, load-store, load-other, length-store}
 use Rattle.record.proofs.Pieces.{length-first}
 use Rattle.record.proofs.Apart.{place-next}
-use Rattle.rules.specs.Operations.{recordOf, memoryOf}
 use Rattle.rules.specs.Lists.{State, state}
 use Rattle.trie.proofs.Update.{upd, upd-same, upd-other}
 use Rattle.trie.proofs.Levels.{Levels}
 use Rattle.trie.proofs.Whole.{Worker, Inv}
 use Rattle.rules.proofs.Matches.{Matches}
-use Rattle.rules.proofs.Invariant.{WorldOf, Table, At, Fine, at}
+use Rattle.rules.proofs.Invariant.{WorldOf, Table, Fine, at}
 use Rattle.rules.proofs.Fitting.{well-formed}
 
 -- a record in the words has as many Moves as its word says

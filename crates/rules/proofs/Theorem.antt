@@ -1,21 +1,19 @@
 -- Demand 3: for every carried out opening and every sequence of starts and turns there is one row of all ended calls.
 -- Relies on what holds along a sequence, on the count of nodes taken, and on that the reached nodes are the placed ones.
-use Prim.Native.Nat.{ℕ, zero, suc, _+_, _≤_, _<_}
-use mathlib.Core.Path.{_≡_, refl, sym, ap, _∙_}
+use Prim.Native.Nat.{ℕ}
+use mathlib.Core.Path.{_≡_, refl, _∙_}
 use mathlib.Core.Bool.{true}
-use mathlib.Core.List.{List, [], _∷_, _++_}
+use mathlib.Core.List.{List, []}
 use native.Mathlib.Omega.{arith}
-use Rattle.words.specs.Choice.{every, both}
-use Rattle.words.specs.Digits.{maxPixel}
+use Rattle.words.specs.Choice.{every}
 use Rattle.words.proofs.Choice.{both-left, both-right}
 use Rattle.settings.specs.Sizes.{question1, fresh}
 use Rattle.settings.specs.declared.Settings.{Settings}
-use Rattle.areas.specs.Memory.{Areas, nodeRef, pixelAt}
-use Rattle.rules.specs.Opening.{openedSettings, openedAreas}
-use Rattle.rules.specs.Operations.{opening, openingQuestions, question2Of, memoryOf}
-use Rattle.rules.specs.Lists.{State, state, after}
-use Rattle.rules.specs.Reached.{Reached}
-use Rattle.rules.specs.Calls.{Event, Call, Book, Holds, calls, history, stateAfter}
+use Rattle.areas.specs.Memory.{Areas}
+use Rattle.rules.specs.Opening.{openedSettings}
+use Rattle.rules.specs.Operations.{openingQuestions, question2Of}
+use Rattle.rules.specs.Lists.{State}
+use Rattle.rules.specs.Calls.{Event, Call, calls}
 use Rattle.rules.specs.Refusals.{AllYes}
 use Rattle.rules.specs.Demands.{ReachedIsBook, Row, Demand3, Statement}
 use Rattle.rules.proofs.Dims.{Width, width-3}
@@ -27,7 +25,7 @@ use Rattle.rules.proofs.RowBook.{in-order}
 use Rattle.rules.proofs.RowEnds.{bookOf, in-pairs, of-pairs}
 use Rattle.rules.proofs.Along.{Along}
 use Rattle.rules.proofs.Opened.{along-opened}
-use Rattle.rules.proofs.Sequence.{AtEnd, run-along, event-ok, left-over}
+use Rattle.rules.proofs.Sequence.{AtEnd, run-along, run-ends, event-ok, left-over}
 use Rattle.rules.proofs.Counting.{sequence-counts}
 
 -- the reached nodes with their pixels are the pairs of the book
@@ -56,6 +54,7 @@ row-of {x = x} a es =
       row = e .along .rows .row;
       book = bookOf (e .along .world);
       all-calls = e .along .rows .perm;
+      none-lost = run-ends es x a;
       in-order = in-order (e .along .rows .row) (e .along .rows .rowed .rows .ordered);
       reads = e .along .rows .rowed .rows .run;
       reached = reached-book e;

@@ -1,41 +1,39 @@
 -- The event of a turn: what it leaves holds along the sequence; it is not answered 6, and "full" only where every node is taken.
 -- Relies on that every kind of turn keeps the invariant, on demand 1 of a turn, and on the row over a turn.
-use Prim.Native.Nat.{ℕ, zero, suc, _≤_, _<_}
+use Prim.Native.Nat.{ℕ, suc, _≤_}
 use mathlib.Core.Path.{_≡_, refl, sym, ap, _∙_}
-use mathlib.Core.Logic.{_≢_}
-use mathlib.Core.Bool.{Bool, true, false, not}
-use mathlib.Core.List.{List, [], _∷_, _++_, append-nil}
+use mathlib.Core.Logic.{_≢_, _⊎_, inl, inr}
+use mathlib.Core.Bool.{true, false}
+use mathlib.Core.List.{List, [], _∷_, _++_}
 use native.Mathlib.Decide.{ℕ-discrete}
 use native.Mathlib.Omega.{arith}
-use lib.Dec.{eqb}
-use borrow.Author.Tests.{eq-eqb, ne-eqb, ltb-true, not-true}
+use lib.ListN.{length}
+use borrow.Author.Tests.{not-true}
 use Rattle.words.specs.Choice.{asks, firstNo}
 use Rattle.settings.specs.declared.Settings.{Settings}
-use Rattle.areas.specs.Memory.{none}
 use Rattle.record.specs.declared.Answer.{Answer}
-use Rattle.record.specs.declared.Answer.the-variants.{Nothing, New, Found, Full, Open}
-use Rattle.record.specs.Layout.{Record, store}
+use Rattle.record.specs.declared.Answer.the-variants.{Nothing, Full}
 use Rattle.rules.specs.Heads.{ended}
 use Rattle.rules.specs.Acts.{act}
-use Rattle.rules.specs.Asked.{question4, question6, question7, question8, question9}
-use Rattle.rules.specs.Operations.{Result, refused, recordOf, memoryOf, taken, full, fullRecord, turn, turnQuestions}
-use Rattle.rules.specs.Lists.{State, state, after}
-use Rattle.rules.specs.Calls.{Call, Opened, Event, turns, happens, opens, ends, endsWith}
+use Rattle.rules.specs.Asked.{question4, question7, question8, question9}
+use Rattle.rules.specs.Operations.{Result, recordOf, taken, full, fullRecord, turn, turnQuestions}
+use Rattle.rules.specs.Lists.{State, after}
+use Rattle.rules.specs.Calls.{Call, Opened, turns, happens, opens, ends, endsWith, endingAnswer, ending}
 use Rattle.rules.specs.Demands.{EventOk}
 use Rattle.trie.proofs.Update.{upd}
 use Rattle.trie.proofs.Evolve.{grows-refl}
 use Rattle.trie.proofs.Levels.{levels-stay}
 use Rattle.trie.proofs.Whole.{idle, Worker, is-idle, stay-step}
-use Rattle.rules.proofs.Questions.{first-later, first-yes, last-no}
+use Rattle.rules.proofs.Questions.{first-later, first-yes, none-given, last-no}
 use Rattle.rules.proofs.OneTurn.{turn-number, done-number, nine-is-full, turn-refused, turn-leaves}
-use Rattle.rules.proofs.Invariant.{WorldOf, at, TurnOk, Rowing, goes, ends-new, ends-found}
+use Rattle.rules.proofs.Invariant.{WorldOf, at, Rowing, goes, ends-new, ends-found}
 use Rattle.rules.proofs.Matches.{rests}
 use Rattle.rules.proofs.Idle.{busy-acts}
 use Rattle.rules.proofs.Asking.{asks-ok, turn-ok}
-use Rattle.rules.proofs.Ending.{NoneLeft, none-left, full-unseen}
+use Rattle.rules.proofs.Ending.{none-left, full-unseen}
 use Rattle.rules.proofs.Stored.{fine-after}
-use Rattle.rules.proofs.RowTurns.{row-turn, row-full-turn}
-use Rattle.rules.proofs.Along.{Along, along-waits, top-stays, newest-stays}
+use Rattle.rules.proofs.RowTurns.{ends-one, row-turn, row-full-turn}
+use Rattle.rules.proofs.Along.{Along, below, along-waits, top-stays, newest-stays}
 
 ends-of : (i k : ℕ) (os : List Opened) (r : Result) → ends (turns i) k (r .reply) os ≡ endsWith i k (r .reply .answer) os
 unfolding ends
@@ -49,32 +47,36 @@ nothing-ends : (i k : ℕ) (os : List Opened) → endsWith i k Nothing os ≡ []
 unfolding endsWith
 nothing-ends i k os = refl
 
-none-six : firstNo [] ≢ 6
-unfolding firstNo
-none-six z = omega arith
+nothing-counts : (i k : ℕ) (os : List Opened) → length (endsWith i k Nothing os) ≡ endingAnswer Nothing
+unfolding endsWith endingAnswer
+nothing-counts i k os = refl
 
--- the worker is below workers and has a call open
-pub record Open8 (w : ℕ) (x : State) (i : ℕ) : Type 0 where
+-- a turn that its questions let through, or all but question 9: n is its number
+abbrev Passed : ℕ → Type 0
+Passed n = (n ≡ 0) ⊎ (n ≡ 9)
+
+other-number : (m : ℕ) {n : ℕ} → m ≢ 0 → m ≢ 9 → Passed n → m ≢ n
+other-number m z y (inl e) q = z (q ∙ e)
+other-number m z y (inr e) q = y (q ∙ e)
+
+-- its worker is below workers and has a call open; what question 9 gives
+record Open8 (w : ℕ) (x : State) (i n : ℕ) : Type 0 where
   pub below : question4 (x .settings) i ≡ true
   pub busy : question7 (recordOf w (x .areas) i) ≡ false
+  pub gives : firstNo (asks 9 (question9 (x .settings) (recordOf w (x .areas) i)) ∷ []) ≡ n
 
--- questions 4 and 8 of a turn whose number is n, other than 1 to 4, 6 and 8; and what question 9 then gives
-turn-open : (w : ℕ) (x : State) (i n : ℕ) → 1 ≢ n → 2 ≢ n → 3 ≢ n → 4 ≢ n → 6 ≢ n → 8 ≢ n → turn w (x .settings) i (x .areas) .reply .number ≡ n → Open8 w x i × (firstNo (asks 9 (question9 (x .settings) (recordOf w (x .areas) i)) ∷ []) ≡ n)
+turn-open : (w : ℕ) (x : State) (i : ℕ) {n : ℕ} → Passed n → turn w (x .settings) i (x .areas) .reply .number ≡ n → Open8 w x i n
 unfolding turnQuestions question8
-turn-open w x i n h₁ h₂ h₃ h₄ h₆ h₈ e =
-    let (y₁, e₁) = first-later 1 _ _ h₁ (sym (turn-number w (x .settings) i (x .areas)) ∙ e) in
-    let (y₂, e₂) = first-later 2 _ _ h₂ e₁ in
-    let (y₃, e₃) = first-later 3 _ _ h₃ e₂ in
-    let (y₄, e₄) = first-later 4 _ _ h₄ e₃ in
-    let (y₆, e₆) = first-later 6 _ _ h₆ e₄ in
-    let (y₈, e₈) = first-later 8 _ _ h₈ e₆ in
-    (record { below = y₄; busy = not-true _ y₈ }, e₈)
+turn-open w x i p e =
+    let (y₁, e₁) = first-later 1 _ _ (other-number 1 (λ z. omega arith) (λ z. omega arith) p) (sym (turn-number w (x .settings) i (x .areas)) ∙ e) in
+    let (y₂, e₂) = first-later 2 _ _ (other-number 2 (λ z. omega arith) (λ z. omega arith) p) e₁ in
+    let (y₃, e₃) = first-later 3 _ _ (other-number 3 (λ z. omega arith) (λ z. omega arith) p) e₂ in
+    let (y₄, e₄) = first-later 4 _ _ (other-number 4 (λ z. omega arith) (λ z. omega arith) p) e₃ in
+    let (y₆, e₆) = first-later 6 _ _ (other-number 6 (λ z. omega arith) (λ z. omega arith) p) e₄ in
+    let (y₈, e₈) = first-later 8 _ _ (other-number 8 (λ z. omega arith) (λ z. omega arith) p) e₆ in
+    record { below = y₄; busy = not-true _ y₈; gives = e₈ }
 
 module _ {w : ℕ} {s₀ : Settings} {x : State} {k : ℕ} {os : List Opened} {cs : List Call} (a : Along w s₀ x k os cs) (i : ℕ) where
-  below : question4 (x .settings) i ≡ true → i < s₀ .workers
-  unfolding question4
-  below q = let l : i < x .settings .workers = ltb-true _ _ q in rw (a .fine .table .same .workers-is) at l
-
   turn-not-6 : turn w (x .settings) i (x .areas) .reply .number ≢ 6
   unfolding turnQuestions
   turn-not-6 e =
@@ -82,19 +84,19 @@ module _ {w : ℕ} {s₀ : Settings} {x : State} {k : ℕ} {os : List Opened} {c
       let (y₂, e₂) = first-later 2 _ _ (λ z. omega arith) e₁ in
       let (y₃, e₃) = first-later 3 _ _ (λ z. omega arith) e₂ in
       let (y₄, e₄) = first-later 4 _ _ (λ z. omega arith) e₃ in
-      let f = asks-ok (at (a .fine) i (below y₄)) in
+      let f = asks-ok (at (a .fine) i (below a y₄)) in
       let (y₈, e₈) = first-later 8 _ _ (λ z. omega arith) (sym (first-yes 6 _ f) ∙ e₄) in
       let (y₉, e₉) = first-later 9 _ _ (λ z. omega arith) e₈ in
-      none-six e₉
+      none-given (λ z. omega arith) e₉
 
   -- the turn is taken
   turn-carried : turn w (x .settings) i (x .areas) .reply .number ≡ 0 → Along w s₀ (after (turn w (x .settings) i (x .areas))) (suc k) os (cs ++ endsWith i k (turn w (x .settings) i (x .areas) .reply .answer) os)
   unfolding taken
   turn-carried z =
-      let (o, e) = turn-open w x i 0 (λ y. omega arith) (λ y. omega arith) (λ y. omega arith) (λ y. omega arith) (λ y. omega arith) (λ y. omega arith) z in
+      let o = turn-open w x i (inl refl) z in
       let F = a .fine in
-      let h = below (o .below) in
-      let q = first-later 9 _ _ (λ y. omega arith) e .0 in
+      let h = below a (o .below) in
+      let q = first-later 9 _ _ (λ y. omega arith) (o .gives) .0 in
       let K = turn-ok (at F i h) (o .busy) q in
       let b = busy-acts (F .records i h) (o .busy) in
       rw (done-number w (x .settings) i (x .areas) z, taken)
@@ -117,10 +119,10 @@ module _ {w : ℕ} {s₀ : Settings} {x : State} {k : ℕ} {os : List Opened} {c
   turn-full : turn w (x .settings) i (x .areas) .reply .number ≡ 9 → Along w s₀ (after (turn w (x .settings) i (x .areas))) (suc k) os (cs ++ endsWith i k (turn w (x .settings) i (x .areas) .reply .answer) os)
   unfolding full fullRecord ended
   turn-full z =
-      let (o, e) = turn-open w x i 9 (λ y. omega arith) (λ y. omega arith) (λ y. omega arith) (λ y. omega arith) (λ y. omega arith) (λ y. omega arith) z in
+      let o = turn-open w x i (inr refl) z in
       let F = a .fine in
-      let h = below (o .below) in
-      let N = none-left (x .settings) (recordOf w (x .areas) i) (last-no 9 _ (λ y. omega arith) e) in
+      let h = below a (o .below) in
+      let N = none-left (x .settings) (recordOf w (x .areas) i) (last-no 9 _ (λ y. omega arith) (o .gives)) in
       let b = busy-acts (F .records i h) (o .busy) in
       let M = F .records i h in
       let c : Worker = record { key = a .workers i .key; since = a .workers i .since; node = a .workers i .node; level = a .workers i .level; act = idle } in
@@ -153,6 +155,22 @@ module _ {w : ℕ} {s₀ : Settings} {x : State} {k : ℕ} {os : List Opened} {c
       by (no z) (yes y) = turn-full y
       by (no z) (no y) = turn-waits z y
 
+  -- the calls that the turn ended: one if it was answered "new", "found" or "full", else none
+  pub turn-ends : length (ends (turns i) k (turn w (x .settings) i (x .areas) .reply) os) ≡ ending (turns i) (turn w (x .settings) i (x .areas) .reply)
+  unfolding ends ending
+  turn-ends = by (ℕ-discrete (turn w (x .settings) i (x .areas) .reply .number) 0) (ℕ-discrete (turn w (x .settings) i (x .areas) .reply .number) 9)
+    where
+      r : Result
+      r = turn w (x .settings) i (x .areas)
+
+      one : {n : ℕ} → Open8 w x i n → length (endsWith i k (r .reply .answer) os) ≡ endingAnswer (r .reply .answer)
+      one o = let h = below a (o .below) in ends-one (a .opened i h (busy-acts (a .fine .records i h) (o .busy))) k (r .reply .answer)
+
+      by : Dec (r .reply .number ≡ 0) → Dec (r .reply .number ≡ 9) → length (endsWith i k (r .reply .answer) os) ≡ endingAnswer (r .reply .answer)
+      by (yes z) d = one (turn-open w x i (inl refl) z)
+      by (no z) (yes y) = one (turn-open w x i (inr refl) y)
+      by (no z) (no y) = rw (turn-refused w (x .settings) i (x .areas) z y) (nothing-counts i k os)
+
   -- a carried out turn is not answered "full", and a refusal is only by 9
   full-nine : turn w (x .settings) i (x .areas) .reply .answer ≡ Full → turn w (x .settings) i (x .areas) .reply .number ≡ 9
   unfolding taken
@@ -168,8 +186,8 @@ module _ {w : ℕ} {s₀ : Settings} {x : State} {k : ℕ} {os : List Opened} {c
 
       by : Dec (r .reply .number ≡ 0) → Dec (r .reply .number ≡ 9) → r .reply .number ≡ 9
       by (yes z) d =
-          let (o, e) = turn-open w x i 0 (λ y. omega arith) (λ y. omega arith) (λ y. omega arith) (λ y. omega arith) (λ y. omega arith) (λ y. omega arith) z in
-          let K = turn-ok (at (a .fine) i (below (o .below))) (o .busy) (first-later 9 _ _ (λ y. omega arith) e .0) in
+          let o = turn-open w x i (inl refl) z in
+          let K = turn-ok (at (a .fine) i (below a (o .below))) (o .busy) (first-later 9 _ _ (λ y. omega arith) (o .gives) .0) in
           absurd (not-full (K .rowing) (sym (ap (λ y. y .reply .answer) (done-number w (x .settings) i (x .areas) z)) ∙ f))
       by (no z) (yes y) = y
       by (no z) (no y) = absurd (nothing-full (sym (ap (λ u. u .reply .answer) (turn-refused w (x .settings) i (x .areas) z y)) ∙ f))
@@ -183,8 +201,8 @@ module _ {w : ℕ} {s₀ : Settings} {x : State} {k : ℕ} {os : List Opened} {c
       record {
         full-taken = λ f.
             let z = full-nine f in
-            let (o, e) = turn-open w x i 9 (λ y. omega arith) (λ y. omega arith) (λ y. omega arith) (λ y. omega arith) (λ y. omega arith) (λ y. omega arith) z in
-            let N = none-left (x .settings) (recordOf w (x .areas) i) (last-no 9 _ (λ y. omega arith) e) in
+            let o = turn-open w x i (inr refl) z in
+            let N = none-left (x .settings) (recordOf w (x .areas) i) (last-no 9 _ (λ y. omega arith) (o .gives)) in
             let same : x .settings .nodes ≡ s₀ .nodes = a .fine .table .same .nodes-is in
             let l : x .settings .«nodes_taken» ≤ s₀ .nodes = a .fine .table .nodes-le in
             rw (nine-is-full w (x .settings) i (x .areas) z, full) (omega (arith, N .all-taken));

@@ -1,6 +1,6 @@
 -- A sequence of starts and turns, the ended calls in it, the row of calls and the book that reads it ("The row of calls").
 -- Relies on the definitions of start and turn.
-use Prim.Native.Nat.{ℕ, suc, _<_}
+use Prim.Native.Nat.{ℕ, suc, _+_, _<_}
 use mathlib.Core.Path.{_≡_}
 use mathlib.Core.List.{List, [], _∷_, _++_, List·Memᴰ}
 use lib.Dec.{eqb}
@@ -77,6 +77,22 @@ callsFrom k os (x ∷ xs) = ends (x .event) k (x .reply) os ++ callsFrom (suc k)
 
 unfoldable pub calls : List Happened → List Call
 calls xs = callsFrom 0 [] xs
+
+-- the number of turns answered "new", "found" or "full", by the events and the replies alone
+unfoldable pub endingAnswer : Answer → ℕ
+endingAnswer Nothing = 0
+endingAnswer (New n) = 1
+endingAnswer (Found n) = 1
+endingAnswer Full = 1
+endingAnswer Open = 0
+
+unfoldable pub ending : Event → Reply → ℕ
+ending (starts i row column) r = 0
+ending (turns i) r = endingAnswer (r .answer)
+
+unfoldable pub endings : List Happened → ℕ
+endings [] = 0
+endings (x ∷ xs) = ending (x .event) (x .reply) + endings xs
 
 -- "It holds pairs of a pixel and a node, none at first."
 abbrev pub Book : Type 0

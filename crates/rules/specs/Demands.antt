@@ -1,11 +1,12 @@
 -- Demand 3 as one statement with its parts named, and the two facts that document 01 says "is proved" of: 6 is never given, a level is left.
 -- Relies on the operations, the sequence and its row of calls, and on what is reached.
-use Prim.Native.Nat.{ℕ, zero, suc, _+_, _≤_, _<_}
+use Prim.Native.Nat.{ℕ, _+_, _≤_, _<_}
 use mathlib.Core.Path.{_≡_}
 use mathlib.Core.Logic.{_≢_, _⊎_}
 use mathlib.Core.Bool.{Bool, false}
 use mathlib.Core.List.{List, [], _∷_, _++_, List·Permᴰ}
 use lib.Dec.{eqb}
+use lib.ListN.{length}
 use Rattle.words.specs.Choice.{pick, both}
 use Rattle.words.specs.Digits.{maxPixel}
 use Rattle.settings.specs.Sizes.{levelCount}
@@ -17,11 +18,13 @@ use Rattle.rules.specs.Asked.{takesNode}
 use Rattle.rules.specs.Operations.{opening, recordOf, memoryOf}
 use Rattle.rules.specs.Lists.{State, after}
 use Rattle.rules.specs.Reached.{Reached}
-use Rattle.rules.specs.Calls.{Event, starts, turns, happens, history, stateAfter, Call, calls, Book, Holds, ReadsRow, InOrder}
+use Rattle.rules.specs.Calls.{Event, starts, turns, happens, history, stateAfter, Call, calls, endings, Book, Holds, ReadsRow, InOrder}
 
 -- "After the whole sequence the reached nodes, each with its pixel, are exactly the pairs in the book."
 pub record ReachedIsBook (w : ℕ) (x : State) (b : Book) : Type 0 where
+  -- excludes: a machine that hangs a second node of a placed pixel into a chain; one that writes over the pixel word of a placed node
   pub in-book : (i : ℕ) → Reached w (memoryOf (x .areas)) (nodeRef i) → Holds b (pixelAt (x .areas .nodes) i) i × (pixelAt (x .areas .nodes) i ≤ maxPixel)
+  -- excludes: a machine that moves a chain from its first node; one that writes the entry in H before the last node is set
   pub in-memory : (p i : ℕ) → Holds b p i → Reached w (memoryOf (x .areas)) (nodeRef i) × (pixelAt (x .areas .nodes) i ≡ p)
 
 -- "There is a row in which each call meets its line, and a call that ended before another started stands earlier."
@@ -29,9 +32,16 @@ pub record Row (w : ℕ) (x : State) (es : List Event) : Type 0 where
   pub row : List Call
   pub book : Book
   -- "The row is an order of all ended calls, each standing in it once"
+  -- excludes: a machine that answers "found" for a pixel that nobody placed; one that answers "new" twice for one pixel (their row would leave a call out)
   pub all-calls : List·Permᴰ (calls (history w es x)) row
+  -- no ended call is lost: each turn answered "new", "found" or "full" ended a call that a start had opened
+  -- excludes: a machine whose refused start still opens a call; one that answers "found" to a worker that never started a call
+  pub none-lost : length (calls (history w es x)) ≡ endings (history w es x)
+  -- excludes: a machine that answers "full" for a pixel placed before the call started; one that answers "found" before any call that places the pixel has started
   pub in-order : InOrder row
+  -- excludes: a machine that gives two pixels the same node; one that answers "found" with another node than the "new" of the pixel
   pub reads : ReadsRow [] row book
+  -- excludes: a machine that answers "new" and writes nothing; one that loses the nodes of a chain that it moves
   pub reached : ReachedIsBook w (stateAfter w es x) book
 
 -- a turn that takes a next number for a node: Take or TakeTail, nothing spare, carried out
@@ -48,21 +58,28 @@ numbersTaken w (e ∷ es) x = pick (takesNumber w e x) 1 0 + numbersTaken w es (
 -- what holds of one event e that finds the state x
 pub record EventOk (w : ℕ) (e : Event) (x : State) : Type 0 where
   -- "In the settings given back with "full", nodes taken equals nodes."
+  -- excludes: a machine that answers "full" with nodes left; one that gives back older settings with "full"
   pub full-taken : happens w e x .reply .answer ≡ Full → happens w e x .reply .settings .«nodes_taken» ≡ happens w e x .reply .settings .nodes
   -- "6 is never given; this is proved."
+  -- excludes: a machine that leaves a reference to a level not yet taken; one whose Moves go deeper than its record has room for
   pub never-6 : happens w e x .reply .number ≢ 6
 
 -- "With that many, a level is always left when one is needed; this is proved.": worker i is at Level or SetLevel and holds none
 pub record LevelLeft (w : ℕ) (i : ℕ) (x : State) : Type 0 where
+  -- excludes: a machine that takes a next level though it holds a spare one; one that closes chains below the limit
   pub left : (recordOf w (x .areas) i .head .kind ≡ Level) ⊎ (recordOf w (x .areas) i .head .kind ≡ SetLevel) → recordOf w (x .areas) i .head .«held_level» ≡ 0 → x .settings .«levels_taken» < levelCount w (x .settings)
 
 -- demand 3 of a sequence es from a state x that a carried out opening left
 pub record Demand3 (w : ℕ) (x : State) (es : List Event) : Type 0 where
+  -- excludes: a machine that answers "new" twice for one pixel; one that misses a placed pixel in its search and places it again
   pub row : Row w x es
   -- of each event of the sequence, after the events before it
+  -- excludes: a machine that answers 6 at some later event of a long sequence; one that answers "full" too early in the middle of one
   pub each : (before : List Event) (e : Event) (rest : List Event) → es ≡ before ++ e ∷ rest → EventOk w e (stateAfter w before x)
   -- "Nodes taken is the number of turns up to then that took a next number for a node."
+  -- excludes: a machine that takes a next number though it holds a spare node; one that gives a node back after a failed exchange
   pub taken : (before rest : List Event) → es ≡ before ++ rest → stateAfter w before x .settings .«nodes_taken» ≡ numbersTaken w before x
+  -- excludes: a machine that runs out of levels under some order of turns; one that drops its level after a failed Close
   pub level-left : (before rest : List Event) → es ≡ before ++ rest → (i : ℕ) → i < x .settings .workers → LevelLeft w i (stateAfter w before x)
 
 -- "It begins with the settings and areas that a carried out opening left, whatever the areas held before."

@@ -1,4 +1,4 @@
--- The definitions of document 01, in its order.
+-- The definitions of document 01, in its order, and what its demands 1 and 3 say of them.
 -- Relies on words, settings, areas and record.
 pub mod Opening
 pub mod Heads
@@ -13,3 +13,4 @@ pub mod Reached
 pub mod Calls
 pub mod Refusals
 pub mod Demands
+pub mod Consequences

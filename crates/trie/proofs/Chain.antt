@@ -1,11 +1,11 @@
 -- References, and the cells of a chain: from a first cell along the nodes' next words to the cell at the end.
 -- Relies on Update and Lists.
-use mathlib.Core.Path.{_≡_, refl, sym, ap, _∙_}
-use mathlib.Core.Logic.{_≢_, _⊎_, inl, inr}
+use mathlib.Core.Path.{_≡_, refl, _∙_}
+use mathlib.Core.Logic.{_≢_}
 use mathlib.Core.List.{List, [], _∷_, _++_, List·Memᴰ·head, List·Memᴰ·tail, Memᴰ·cast}
-use Prim.Native.Nat.{ℕ, zero, suc, _+_, _*_, _≤_, _<_}
+use Prim.Native.Nat.{ℕ, _+_, _*_}
 use native.Mathlib.Omega.{arith}
-use Rattle.trie.proofs.Update.{Cell, ent, nxt, updC, updC-same, updC-other}
+use Rattle.trie.proofs.Update.{Cell, ent, nxt, updC, updC-other}
 use Rattle.trie.proofs.Lists.{_∈_, NoDup}
 
 abbrev pub levelRef : ℕ → ℕ

@@ -1,19 +1,18 @@
 -- Effect E4: an open full chain is closed: its end becomes a new level, which is published (Close, SetClose).
 -- Relies on Digits, Update, Lists, Chain, Tree, World, Evolve and Frame.
 use mathlib.Core.Path.{_≡_, refl, sym, ap, _∙_}
-use mathlib.Core.Logic.{_≢_, _⊎_, inl, inr}
-use mathlib.Core.List.{List, [], _∷_, _++_, append-nil}
-use Prim.Native.Nat.{ℕ, zero, suc, _+_, _*_, _≤_, _<_}
+use mathlib.Core.Logic.{_≢_}
+use mathlib.Core.List.{[], append-nil}
+use Prim.Native.Nat.{ℕ, suc, _+_, _*_, _<_}
 use native.Mathlib.Decide.{ℕ-discrete}
 use native.Mathlib.Omega.{arith}
-use lib.ListN.{length}
-use Rattle.trie.proofs.Digits.{Dims, top, digit}
-use Rattle.trie.proofs.Update.{Cell, ent, nxt, upd, upd-same, upd-other, updC, updC-same, updC-other, upd₂, upd₂-same, upd₂-other, same-entry?}
-use Rattle.trie.proofs.Lists.{_∈_, NoDup, no-members}
-use Rattle.trie.proofs.Chain.{levelRef, nodeRef, ent-nxt, endCell, links-end}
-use Rattle.trie.proofs.Tree.{Tree, Published, Child, Closed, TreeOk, Inside, here, inside-mono}
-use Rattle.trie.proofs.World.{World, Placed, lastCell, end, NodeInside, RefInside, to-level, to-node, Homed, SlotAt, SlotOk, Structure, Partition}
-use Rattle.trie.proofs.Evolve.{Grows, Spares, Changed, same, longer, shorter}
+use Rattle.trie.proofs.Digits.{Dims}
+use Rattle.trie.proofs.Update.{ent, nxt, upd, upd-same, upd-other, updC, updC-same, updC-other, upd₂, upd₂-same, upd₂-other, same-entry?}
+use Rattle.trie.proofs.Lists.{_∈_, no-members}
+use Rattle.trie.proofs.Chain.{levelRef, ent-nxt, links-end}
+use Rattle.trie.proofs.Tree.{Published, Child, Closed, TreeOk, Inside, here, inside-mono}
+use Rattle.trie.proofs.World.{World, lastCell, NodeInside, RefInside, to-level, to-node, Homed, SlotOk, Structure, Partition}
+use Rattle.trie.proofs.Evolve.{Grows, Spares, same}
 use Rattle.trie.proofs.Frame.{one-slot, ends-apart, entry-away, node-away, held-away, level-away, slot-frame}
 
 -- the chain of (H, e) closed by level G, which worker v (its number + 2) will move

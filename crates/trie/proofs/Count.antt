@@ -1,21 +1,21 @@
 -- The number of levels: each published level of depth d stands on `limit` nodes of its own.
 -- Relies on Digits, Update, Lists, Tree, World, Read, Evolve and Close.
 use mathlib.Core.Path.{_≡_, refl, sym, ap, _∙_}
-use mathlib.Core.Logic.{_≢_, _⊎_, inl, inr}
-use mathlib.Core.List.{List, [], _∷_, _++_, List·Memᴰ·append-cases}
-use Prim.Native.Nat.{ℕ, zero, suc, _+_, _*_, _/_, _≤_, _<_}
+use mathlib.Core.Logic.{_⊎_, inl, inr}
+use mathlib.Core.List.{List, _++_, List·Memᴰ·append-cases}
+use Prim.Native.Nat.{ℕ, suc, _*_, _≤_, _<_}
 use native.Mathlib.Nat.{mul-suc}
 use native.Mathlib.Decide.{ℕ-discrete}
 use native.Mathlib.Omega.{arith}
 use lib.ListN.{length, length-append}
-use Rattle.trie.proofs.Digits.{Dims, top, digit}
+use Rattle.trie.proofs.Digits.{Dims, top}
 use Rattle.trie.proofs.Update.{upd, upd-same, upd-other}
 use Rattle.trie.proofs.Lists.{_∈_, NoDup, nodup-append, nodup-below}
-use Rattle.trie.proofs.Tree.{Tree, Published, OnPath, deepest}
+use Rattle.trie.proofs.Tree.{OnPath, deepest}
 use Rattle.trie.proofs.World.{World, Placed, Structure}
 use Rattle.trie.proofs.Read.{home-path}
 use Rattle.trie.proofs.Evolve.{Grows, path-stays}
-use Rattle.trie.proofs.Close.{close, CanClose, close-grows, close-structure, published}
+use Rattle.trie.proofs.Close.{close, CanClose, close-grows}
 
 -- covered d: the nodes that the levels of depth d were made for; count d: the number of those levels
 pub record Counted {δ : Dims} (w : World δ) (covered : ℕ → List ℕ) (count : ℕ → ℕ) : Type 0 where

@@ -1,19 +1,15 @@
 -- What a turn of another worker may have done, seen by one worker, and what it leaves true for that worker.
 -- Relies on Digits, Update, Lists, Chain, Tree, Read and World.
 use mathlib.Core.Path.{_≡_, refl, sym, ap, _∙_}
-use mathlib.Core.Logic.{_≢_, _⊎_, inl, inr}
-use mathlib.Core.List.{List, [], _∷_, _++_, append-assoc, append-nil, List·Memᴰ·append-cases, Memᴰ·append-left, Memᴰ·append-right, List·Memᴰ·head}
-use Prim.Native.Nat.{ℕ, zero, suc, _+_, _*_, _≤_, _<_}
-use native.Mathlib.Decide.{ℕ-discrete}
-use native.Mathlib.Omega.{arith}
-use lib.ListN.{length}
-use Rattle.trie.proofs.Digits.{Dims, top, digit, digit-lt, top-suc, digits-split}
-use Rattle.trie.proofs.Update.{Cell, ent, nxt}
-use Rattle.trie.proofs.Lists.{_∈_, NoDup, Cut, kept, went, cut-append}
-use Rattle.trie.proofs.Chain.{levelRef, nodeRef, endCell}
-use Rattle.trie.proofs.Tree.{Tree, Published, TreeOk, Inside, inside-mono, OnPath, deepest, one-level}
+use mathlib.Core.Logic.{_≢_}
+use mathlib.Core.List.{List, [], _∷_, _++_, append-assoc, append-nil, Memᴰ·append-left, Memᴰ·append-right, List·Memᴰ·head}
+use Prim.Native.Nat.{ℕ, _≤_}
+use Rattle.trie.proofs.Digits.{Dims, top}
+use Rattle.trie.proofs.Update.{ent, nxt}
+use Rattle.trie.proofs.Lists.{_∈_, Cut, kept, went, cut-append}
+use Rattle.trie.proofs.Tree.{Published, Inside, inside-mono, OnPath, deepest}
 use Rattle.trie.proofs.Read.{home-path}
-use Rattle.trie.proofs.World.{World, Placed, lastCell, end, NodeInside, Homed, Structure, Partition, Deep, Walk, along, gone, Other}
+use Rattle.trie.proofs.World.{World, Placed, lastCell, NodeInside, Structure, Deep, Walk, along, gone, Other}
 
 -- How a chain may have changed: not; longer while open; shorter by nodes that went into the child
 pub data Changed {δ : Dims} (w w′ : World δ) (g e : ℕ) : Type 0 where

@@ -1,17 +1,17 @@
 -- What writing the end cell of one chain leaves alone.
 -- Relies on Digits, Update, Lists, Chain, Tree and World.
-use mathlib.Core.Path.{_≡_, refl, sym, ap, _∙_}
-use mathlib.Core.Logic.{_≢_, _⊎_, inl, inr}
+use mathlib.Core.Path.{_≡_, sym, ap, _∙_}
+use mathlib.Core.Logic.{_≢_}
 use mathlib.Core.List.{List, [], _∷_, _++_, Memᴰ·cast}
-use Prim.Native.Nat.{ℕ, zero, suc, _+_, _*_, _≤_, _<_}
+use Prim.Native.Nat.{ℕ, suc, _<_}
 use native.Mathlib.Omega.{arith}
 use lib.ListN.{length, length-append}
-use Rattle.trie.proofs.Digits.{Dims, top, digit, digit-lt, top-suc, digits-split}
+use Rattle.trie.proofs.Digits.{Dims, top, digits-split}
 use Rattle.trie.proofs.Update.{Cell, ent, nxt, updC, updC-same, updC-other}
 use Rattle.trie.proofs.Lists.{_∈_, NoDup}
-use Rattle.trie.proofs.Chain.{levelRef, nodeRef, nxt-inj, ent-inj, ent-nxt, endCell, Links, EndOf, first, after, end-of, end-at, links-frame, links-end, links-snoc, links-init}
-use Rattle.trie.proofs.Tree.{Tree, Published, TreeOk, Inside}
-use Rattle.trie.proofs.World.{World, Placed, lastCell, end, NodeInside, RefInside, to-level, to-node, Homed, SlotAt, SlotOk, Structure}
+use Rattle.trie.proofs.Chain.{levelRef, nodeRef, nxt-inj, ent-inj, ent-nxt, endCell, EndOf, first, after, end-of, end-at, links-frame, links-end, links-snoc, links-init}
+use Rattle.trie.proofs.Tree.{Tree, Published}
+use Rattle.trie.proofs.World.{World, lastCell, SlotAt, Structure}
 
 -- a node stands in one chain
 pub one-slot : {δ : Dims} {w : World δ} (S : Structure w) {m g e h d : ℕ} → m ∈ w .chain g e → m ∈ w .chain h d → (g ≡ h) × (e ≡ d)

@@ -1,9 +1,9 @@
 -- A family of chains one of which gets a node more at its end, or loses its last.
 -- Relies on Update and Lists.
-use mathlib.Core.Path.{_≡_, refl, sym, ap, _∙_}
+use mathlib.Core.Path.{_≡_, refl, _∙_}
 use mathlib.Core.Logic.{_≢_, _⊎_, inl, inr}
 use mathlib.Core.List.{List, [], _∷_, _++_, List·Memᴰ·eq-of-singleton, List·Memᴰ·append-cases, Memᴰ·append-left}
-use Prim.Native.Nat.{ℕ, zero, suc}
+use Prim.Native.Nat.{ℕ}
 use Rattle.trie.proofs.Update.{upd₂, upd₂-at, upd₂-same, upd₂-other, same-entry?}
 use Rattle.trie.proofs.Lists.{_∈_, NoDup, ∈-last, nodup-snoc, nodup-init}
 

@@ -28,4 +28,3 @@ pub mod Levels
 pub mod Turns
 pub mod Opening
 pub mod Fresh
-pub mod MoveSteps

@@ -1,20 +1,19 @@
 -- A worker that moves chains: its frames, its clause by kind of turn, and that the others leave it true.
 -- Relies on Digits, Update, Lists, Chain, Tree, World, Evolve, Stand and Search.
-use mathlib.Core.Path.{_≡_, refl, sym, ap, _∙_}
-use mathlib.Core.Logic.{_≢_, _⊎_, inl, inr}
+use mathlib.Core.Path.{_≡_, sym, ap, _∙_}
+use mathlib.Core.Logic.{_≢_}
 use mathlib.Core.List.{List, [], _∷_, _++_}
-use Prim.Native.Nat.{ℕ, zero, suc, _+_, _*_, _^_, _≤_, _<_}
-use native.Mathlib.Decide.{ℕ-discrete}
+use Prim.Native.Nat.{ℕ, suc, _≤_, _<_}
 use native.Mathlib.Omega.{arith}
 use lib.ListN.{length}
-use Rattle.trie.proofs.Digits.{Dims, top, digit, digit-lt, top-suc}
-use Rattle.trie.proofs.Update.{Cell, ent, nxt}
+use Rattle.trie.proofs.Digits.{Dims, digit, digit-lt}
+use Rattle.trie.proofs.Update.{ent, nxt}
 use Rattle.trie.proofs.Lists.{_∈_, ∈-last}
-use Rattle.trie.proofs.Chain.{levelRef, nodeRef, endCell, end-at}
-use Rattle.trie.proofs.Tree.{Tree, Published, TreeOk, Inside, OnPath, inside-depth, closed-depth}
-use Rattle.trie.proofs.World.{World, Placed, lastCell, end, Structure, Partition, Deep, Walk, Other}
+use Rattle.trie.proofs.Chain.{levelRef, endCell, end-at}
+use Rattle.trie.proofs.Tree.{Inside, OnPath, inside-depth, closed-depth}
+use Rattle.trie.proofs.World.{World, Placed, lastCell, end, Structure, Deep}
 use Rattle.trie.proofs.Evolve.{Grows, Spares, path-stays, deep-stays, level-stays}
-use Rattle.trie.proofs.Stand.{Pos, at-entry, at-node, cellOf, passed, CountOk, Stand, on-entry, on-node, stand-stays, not-H-stays}
+use Rattle.trie.proofs.Stand.{Pos, passed, CountOk, Stand, stand-stays, not-H-stays}
 use Rattle.trie.proofs.Search.{Phase, peek, put, again, level, shut, word, Blank, blank-stays}
 
 -- the chain of K's digit at `home` moves into `child`; the nodes remembered

@@ -3,17 +3,16 @@
 use mathlib.Core.Path.{_≡_, refl, sym, ap, _∙_}
 use mathlib.Core.Logic.{_≢_, _⊎_, inl, inr}
 use mathlib.Core.List.{List, [], _∷_, _++_, List·Memᴰ·eq-of-singleton, append-nil}
-use Prim.Native.Nat.{ℕ, zero, suc, _+_, _*_, _^_, _≤_, _<_}
+use Prim.Native.Nat.{ℕ, suc, _+_, _*_, _<_}
 use native.Mathlib.Decide.{ℕ-discrete}
-use native.Mathlib.Omega.{arith}
 use lib.ListN.{length}
-use Rattle.trie.proofs.Digits.{Dims, top, digit}
-use Rattle.trie.proofs.Update.{Cell, ent, nxt, upd, upd-same, upd-other, updC, updC-same, updC-other, same-entry?}
-use Rattle.trie.proofs.Lists.{_∈_, NoDup, ∈-last}
+use Rattle.trie.proofs.Digits.{Dims, top}
+use Rattle.trie.proofs.Update.{ent, nxt, upd, upd-same, upd-other, updC, updC-other, same-entry?}
+use Rattle.trie.proofs.Lists.{_∈_, ∈-last}
 use Rattle.trie.proofs.Grow.{grown, grown-at, grown-other, grown-came, grown-stays, grown-new, grown-once, shrunk, shrunk-at, shrunk-other, shrunk-came, shrunk-stays, shrunk-once}
-use Rattle.trie.proofs.Chain.{levelRef, nodeRef, endCell, links-frame}
-use Rattle.trie.proofs.Tree.{Tree, Published, TreeOk, Inside}
-use Rattle.trie.proofs.World.{World, Placed, lastCell, end, NodeInside, RefInside, to-level, to-node, Homed, SlotAt, SlotOk, Structure, Partition}
+use Rattle.trie.proofs.Chain.{levelRef, nodeRef}
+use Rattle.trie.proofs.Tree.{Published, Inside}
+use Rattle.trie.proofs.World.{World, Placed, lastCell, NodeInside, RefInside, to-level, to-node, Homed, SlotAt, SlotOk, Structure, Partition}
 use Rattle.trie.proofs.Read.{inside-child}
 use Rattle.trie.proofs.Evolve.{Grows, Spares, Changed, same, longer, shorter}
 use Rattle.trie.proofs.Frame.{one-slot, ends-apart, entry-away, node-away, held-away, level-away, slot-frame, slot-grow, slot-shrink}

@@ -1,28 +1,28 @@
 -- The turns of a Move: what each makes of the moving worker's clause.
 -- Relies on Digits, Update, Lists, Chain, Tree, World, Read, Evolve, Frame, Stand, Close, Redirect, MoveOne, TakeLevel, Search and Move.
 use mathlib.Core.Path.{_≡_, refl, sym, ap, _∙_}
-use mathlib.Core.Logic.{_≢_, _⊎_, inl, inr}
+use mathlib.Core.Logic.{_≢_}
 use mathlib.Core.List.{List, [], _∷_, _++_, append-nil, append-assoc, List·Memᴰ·not-nil}
-use Prim.Native.Nat.{ℕ, zero, suc, _+_, _*_, _^_, _≤_, _<_}
+use Prim.Native.Nat.{ℕ, suc, _+_, _*_, _≤_, _<_}
 use native.Mathlib.Decide.{ℕ-discrete}
 use native.Mathlib.Omega.{arith}
 use lib.ListN.{length}
 use Rattle.trie.proofs.Digits.{Dims, top, digit, digit-lt, top-suc, share-less}
-use Rattle.trie.proofs.Update.{Cell, ent, nxt, upd, upd-same, upd-other, updC-same, updC-other, upd₂-same, updL-in, updL-next}
+use Rattle.trie.proofs.Update.{ent, upd, upd-same, upd-other, updC-same, upd₂-same, updL-in, updL-next}
 use Rattle.trie.proofs.Lists.{_∈_, ∈-last, snoc-view, no-length}
-use Rattle.trie.proofs.Chain.{levelRef, nodeRef, endCell, end-at, Links, links-next}
-use Rattle.trie.proofs.Tree.{Tree, Published, TreeOk, Inside, here, up, OnPath, inside-pub, inside-depth, closed-depth, path-down}
-use Rattle.trie.proofs.World.{World, Placed, lastCell, end, NodeInside, RefInside, to-level, to-node, Structure, Partition, Deep, Walk, Other}
-use Rattle.trie.proofs.Read.{home-path, inside-child, goBack, back-is, exchange-next, Last}
-use Rattle.trie.proofs.Evolve.{Grows, Spares, path-stays, deep-stays, level-stays}
+use Rattle.trie.proofs.Chain.{levelRef, nodeRef, endCell, Links, links-next}
+use Rattle.trie.proofs.Tree.{Published, Inside, here, up, OnPath, inside-pub, inside-depth, path-down}
+use Rattle.trie.proofs.World.{World, Placed, lastCell, to-level, Structure, Partition, Deep}
+use Rattle.trie.proofs.Read.{home-path, inside-child, goBack, back-is, exchange-next}
+use Rattle.trie.proofs.Evolve.{Grows, path-stays, deep-stays, level-stays}
 use Rattle.trie.proofs.Frame.{one-slot}
-use Rattle.trie.proofs.Stand.{Pos, at-entry, at-node, cellOf, passed, more, more-ok, Stand, on-entry, on-node, stand-stays, Free, exchange, Met, met-node, met-level, meets}
+use Rattle.trie.proofs.Stand.{Pos, at-entry, at-node, passed, more, more-ok, Stand, on-entry, on-node, exchange, Met, met-node, met-level, meets}
 use Rattle.trie.proofs.Close.{close, CanClose, close-grows, close-structure}
 use Rattle.trie.proofs.Redirect.{redirect, CanRedirect, redirect-grows, redirect-structure}
 use Rattle.trie.proofs.MoveOne.{moveOne, CanMove, move-grows, move-structure, at-source, elsewhere}
 use Rattle.trie.proofs.TakeLevel.{takeLevel, level-grows, level-structure}
-use Rattle.trie.proofs.Search.{Phase, peek, put, again, level, shut, word, Blank, Searching, Local, peeks, shuts, free, absent, shut-done}
-use Rattle.trie.proofs.Move.{Frame, edge, FrameOk, Around, outermost, within, Setting, SetOk, set-peeks, set-puts, set-reads, set-levels, set-shuts, Step, gather, aim, set, finish, Moving, gathers, aims, sets, finishes, last-in, last-placed, last-cell, Keeps, frame-stays, around-stays, setting-stays, frame-depth}
+use Rattle.trie.proofs.Search.{peek, put, again, level, shut, word, Blank, Local, peeks, shuts, absent, shut-done}
+use Rattle.trie.proofs.Move.{Frame, edge, FrameOk, Around, outermost, within, Setting, set-peeks, set-puts, set-reads, set-levels, set-shuts, gather, aim, set, finish, Moving, gathers, aims, sets, finishes, last-in, last-placed, last-cell, Keeps, frame-stays, around-stays, setting-stays, frame-depth}
 
 -- the last node of a frame lies on the child's path
 pub child-path : {δ : Dims} {w : World δ} (S : Structure w) (pre : List ℕ) (N : ℕ) {v : ℕ} {f : Frame} → FrameOk w v f (pre ++ (N ∷ [])) → OnPath (w .tree) (w .pixel N) (f .child)
@@ -161,9 +161,6 @@ module _ {δ : Dims} {w : World δ} (S : Structure w) (Q : Partition w) {v K : �
   -- SetLook, SetTail: T there, and room; T there, at the limit; not T there
   pub set-put : {N T : ℕ} {x : Pos} → Moving w v K f fs (set N (peek T x)) → passed x < δ .limit → Moving w v K f fs (set N (put T x N))
   set-put {N} (sets pre k n (set-peeks s) a) l = sets {N = N} pre k n (set-puts refl s l) a
-
-  pub set-again : {N T : ℕ} {x : Pos} → Moving w v K f fs (set N (peek T x)) → word w (w .pixel N) T x ≢ levelRef T → Moving w v K f fs (set N (again T x))
-  set-again {N} (sets pre k n (set-peeks s) a) q = sets {N = N} pre k n (set-reads s q) a
 
   pub set-level : {N T R C : ℕ} → Moving w v K f fs (set N (peek T (at-node R C))) → word w (w .pixel N) T (at-node R C) ≡ levelRef T → C ≡ δ .limit → Moving w v K f fs (set N (level T (at-node R C)))
   set-level {N} {T} {R} {C} (sets pre k n (set-peeks s) a) q c = sets {N = N} pre k n (set-levels s c (by (s .stand))) a

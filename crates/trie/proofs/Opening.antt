@@ -1,18 +1,16 @@
 -- The table right after an opening: one empty level, no node.
 -- Relies on Digits, Update, Lists, Chain, Tree, World and Whole.
-use mathlib.Core.Path.{_≡_, refl, sym, ap, _∙_}
+use mathlib.Core.Path.{_≡_, refl, ap}
 use mathlib.Core.Logic.{_≢_}
-use mathlib.Core.List.{List, [], _∷_, List·Memᴰ·not-nil}
-use Prim.Native.Nat.{ℕ, zero, suc, _+_, _*_, _≤_, _<_}
+use mathlib.Core.List.{[], List·Memᴰ·not-nil}
+use Prim.Native.Nat.{ℕ, _<_}
 use native.Mathlib.Decide.{ℕ-discrete}
 use native.Mathlib.Omega.{arith}
 use Rattle.trie.proofs.Digits.{Dims}
-use Rattle.trie.proofs.Update.{Cell, ent, nxt, upd, upd-same, upd-other, updL, updL-in}
-use Rattle.trie.proofs.Lists.{_∈_}
-use Rattle.trie.proofs.Chain.{levelRef, nodeRef}
-use Rattle.trie.proofs.Tree.{Tree, Published, TreeOk}
-use Rattle.trie.proofs.World.{World, SlotAt, SlotOk, Structure, Partition}
-use Rattle.trie.proofs.Whole.{Worker, WorkerOk, is-idle, idle, Inv, owner}
+use Rattle.trie.proofs.Update.{Cell, upd, upd-same, upd-other, updL, updL-in}
+use Rattle.trie.proofs.Chain.{levelRef}
+use Rattle.trie.proofs.World.{World, SlotOk}
+use Rattle.trie.proofs.Whole.{Worker, is-idle, idle, Inv, owner}
 
 -- every level but the root is not taken
 abbrev pub owners : ℕ → ℕ

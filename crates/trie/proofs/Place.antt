@@ -2,19 +2,18 @@
 -- Relies on Digits, Update, Lists, Grow, Chain, Tree, World, Evolve and Frame.
 use mathlib.Core.Path.{_≡_, refl, sym, ap, _∙_}
 use mathlib.Core.Logic.{_≢_, _⊎_, inl, inr}
-use mathlib.Core.List.{List, [], _∷_, _++_, List·Memᴰ·not-nil, List·Memᴰ·eq-of-singleton, List·Memᴰ·append-cases, Memᴰ·append-left, Memᴰ·cast}
-use Prim.Native.Nat.{ℕ, zero, suc, _+_, _*_, _^_, _≤_, _<_}
+use mathlib.Core.List.{[], _∷_, _++_, List·Memᴰ·eq-of-singleton, List·Memᴰ·append-cases, Memᴰ·append-left}
+use Prim.Native.Nat.{ℕ, suc, _+_, _*_, _^_, _<_}
 use native.Mathlib.Decide.{ℕ-discrete}
-use native.Mathlib.Omega.{arith}
-use lib.ListN.{length, length-append}
-use Rattle.trie.proofs.Digits.{Dims, top, digit, digit-lt, top-suc, digits-split}
-use Rattle.trie.proofs.Update.{Cell, ent, nxt, upd, upd-same, upd-other, updC, updC-same, updC-other, upd₂, upd₂-same, upd₂-other, same-entry?}
-use Rattle.trie.proofs.Lists.{_∈_, NoDup, ∈-last, nodup-snoc}
+use lib.ListN.{length}
+use Rattle.trie.proofs.Digits.{Dims, top}
+use Rattle.trie.proofs.Update.{ent, nxt, upd, upd-same, upd-other, updC, updC-other, same-entry?}
+use Rattle.trie.proofs.Lists.{_∈_, ∈-last, nodup-snoc}
 use Rattle.trie.proofs.Grow.{grown, grown-at, grown-other, grown-came, grown-stays, grown-new, grown-once}
-use Rattle.trie.proofs.Chain.{levelRef, nodeRef, ent-nxt, endCell, Links, end-at, links-end, links-snoc}
-use Rattle.trie.proofs.Tree.{Tree, Published, TreeOk, Inside}
-use Rattle.trie.proofs.World.{World, Placed, lastCell, end, NodeInside, RefInside, to-level, to-node, Homed, SlotAt, SlotOk, Structure, Partition}
-use Rattle.trie.proofs.Evolve.{Grows, Spares, Changed, same, longer, shorter}
+use Rattle.trie.proofs.Chain.{levelRef, nodeRef}
+use Rattle.trie.proofs.Tree.{Published}
+use Rattle.trie.proofs.World.{World, Placed, lastCell, NodeInside, RefInside, to-level, to-node, Homed, SlotOk, Structure, Partition}
+use Rattle.trie.proofs.Evolve.{Grows, Spares, Changed, same, longer}
 use Rattle.trie.proofs.Frame.{one-slot, ends-apart, entry-away, node-away, held-away, level-away, slot-frame, slot-grow}
 
 -- node n goes to the end of the chain of (H, e)

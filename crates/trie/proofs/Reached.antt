@@ -2,17 +2,17 @@
 -- Relies on Digits, Update, Lists, Chain, Tree, World and Read.
 use mathlib.Core.Path.{_≡_, refl, sym, ap, _∙_}
 use mathlib.Core.Logic.{_≢_, _⊎_, inl, inr}
-use mathlib.Core.List.{List, [], _∷_, _++_, List·Memᴰ·head, List·Memᴰ·tail, List·Memᴰ·not-nil, List·Memᴰ·cases-cons}
-use Prim.Native.Nat.{ℕ, zero, suc, _+_, _*_, _-_, _≤_, _<_}
+use mathlib.Core.List.{List, [], _∷_, List·Memᴰ·head, List·Memᴰ·not-nil, List·Memᴰ·cases-cons}
+use Prim.Native.Nat.{ℕ, zero, suc, _+_, _≤_, _<_}
 use native.Mathlib.Decide.{ℕ-discrete}
 use native.Mathlib.Omega.{arith}
 use Rattle.trie.proofs.Digits.{Dims}
 use Rattle.trie.proofs.Update.{Cell, ent, nxt}
 use Rattle.trie.proofs.Lists.{_∈_, split-mem}
 use Rattle.trie.proofs.Chain.{levelRef, nodeRef, endCell, Links, links-at, end-at}
-use Rattle.trie.proofs.Tree.{Tree, Published, TreeOk, Inside, here, up, inside-pub, inside-depth, closed-depth, root-only, not-root}
-use Rattle.trie.proofs.World.{World, Placed, lastCell, end, NodeInside, RefInside, to-level, to-node, Structure}
-use Rattle.trie.proofs.Read.{leads-inside, inside-child, NextOf, node, ends-open, ends-closed, next-of}
+use Rattle.trie.proofs.Tree.{Published, Inside, here, up, inside-pub, inside-depth, closed-depth, root-only, not-root}
+use Rattle.trie.proofs.World.{World, Placed, lastCell, end, RefInside, to-level, to-node, Structure}
+use Rattle.trie.proofs.Read.{leads-inside, inside-child}
 
 pub data Reached {δ : Dims} (w : World δ) : ℕ → Type 0 where
   root : {r : ℕ} → r ≡ levelRef 0 → Reached w r
@@ -30,7 +30,7 @@ real-ref p (to-level t q i) = a-level t q (inside-pub p i)
 real-ref p (to-node n q i) = a-node n q (i .placed)
 
 module _ {δ : Dims} {w : World δ} (S : Structure w) where
-  real-entry : (g e : ℕ) → Published (w .tree) g → e < δ .base → Real w (w .cell (ent g e))
+  pub real-entry : (g e : ℕ) → Published (w .tree) g → e < δ .base → Real w (w .cell (ent g e))
   real-entry g e p l = by (w .chain g e) refl (S .slot g e p l .links)
     where
       by : (ns : List ℕ) → w .chain g e ≡ ns → Links (w .cell) (ent g e) ns → Real w (w .cell (ent g e))
@@ -44,7 +44,7 @@ module _ {δ : Dims} {w : World δ} (S : Structure w) where
           dec (no z) = real-ref (S .tree-ok .closed g e z .to) (rw at at (S .slot g e p l .if-closed z))
       by (m ∷ ns) c k = a-node m (k .0) (S .homed m g e (rw c (List·Memᴰ·head refl)) .placed)
 
-  real-next : (n : ℕ) → Placed w n → Real w (w .cell (nxt n))
+  pub real-next : (n : ℕ) → Placed w n → Real w (w .cell (nxt n))
   real-next n p =
       let (g, e, i) = S .in-chain n p in
       let h = S .homed n g e i in

@@ -2,17 +2,17 @@
 -- Relies on Digits, Update, Lists, Chain, Tree and World.
 use mathlib.Core.Path.{_≡_, refl, sym, ap, _∙_}
 use mathlib.Core.Logic.{_≢_, _⊎_, inl, inr}
-use mathlib.Core.List.{List, [], _∷_, _++_, append-nil, List·Memᴰ·not-nil, List·Memᴰ·eq-of-singleton, List·Memᴰ·append-cases, List·Memᴰ·head, List·Memᴰ·tail, Memᴰ·append-right}
-use Prim.Native.Nat.{ℕ, zero, suc, _+_, _*_, _≤_, _<_}
+use mathlib.Core.List.{List, [], _∷_, _++_, List·Memᴰ·eq-of-singleton, List·Memᴰ·append-cases, List·Memᴰ·head, List·Memᴰ·tail, Memᴰ·append-right}
+use Prim.Native.Nat.{ℕ, zero, suc, _+_, _≤_, _<_}
 use native.Mathlib.Decide.{ℕ-discrete}
 use native.Mathlib.Omega.{arith}
 use lib.ListN.{length, length-append}
 use Rattle.trie.proofs.Digits.{Dims, top, digit, digit-lt, top-suc, digits-split}
-use Rattle.trie.proofs.Update.{Cell, ent, nxt, pick, pick-yes, pick-no}
-use Rattle.trie.proofs.Lists.{_∈_, NoDup, split-mem}
-use Rattle.trie.proofs.Chain.{levelRef, nodeRef, endCell, Links, end-at, links-at}
-use Rattle.trie.proofs.Tree.{Tree, Published, TreeOk, Inside, here, up, OnPath, inside-depth, inside-trans, inside-pub, closed-depth, not-inside, one-level, deepest}
-use Rattle.trie.proofs.World.{World, Placed, lastCell, end, NodeInside, RefInside, to-level, to-node, Homed, SlotAt, SlotOk, Structure, Partition, Deep, Walk, along, gone, Other}
+use Rattle.trie.proofs.Update.{ent, nxt, pick, pick-yes, pick-no}
+use Rattle.trie.proofs.Lists.{_∈_, split-mem}
+use Rattle.trie.proofs.Chain.{levelRef, nodeRef, Links, end-at, links-at}
+use Rattle.trie.proofs.Tree.{Tree, Published, TreeOk, Inside, here, up, OnPath, inside-depth, inside-trans, closed-depth, not-inside, one-level, deepest}
+use Rattle.trie.proofs.World.{World, Placed, end, NodeInside, RefInside, to-level, to-node, Homed, Structure, Deep, Walk, along, gone, Other}
 
 -- a reference inside c, by its parity
 pub ref-level : {δ : Dims} {w : World δ} {c r t : ℕ} → RefInside w c r → r ≡ levelRef t → Inside (w .tree) c t

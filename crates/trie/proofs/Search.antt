@@ -1,19 +1,18 @@
 -- A call for pixel K that searches: what holds of the worker by kind of turn, that the others leave it true, and what each of its own turns makes of it.
 -- Relies on Digits, Update, Lists, Chain, Tree, World, Read, Evolve, Stand, Place, Close, TakeNode and TakeLevel.
-use mathlib.Core.Path.{_≡_, refl, sym, ap, _∙_}
-use mathlib.Core.Logic.{_≢_, _⊎_, inl, inr}
-use mathlib.Core.List.{List, [], _∷_, _++_}
-use Prim.Native.Nat.{ℕ, zero, suc, _+_, _*_, _^_, _≤_, _<_, min}
+use mathlib.Core.Path.{_≡_, sym, ap, _∙_}
+use mathlib.Core.Logic.{_≢_}
+use Prim.Native.Nat.{ℕ, suc, _+_, _*_, _^_, _≤_, _<_}
 use native.Mathlib.Decide.{ℕ-discrete}
 use native.Mathlib.Omega.{arith}
 use lib.ListN.{length, length-append, take}
 use lib.Seq.{take-append-le}
 use Rattle.trie.proofs.Digits.{Dims, top, digit, digit-lt, top-zero, top-suc, share-less}
-use Rattle.trie.proofs.Update.{Cell, ent, nxt, upd-same, updC-same, updL-in}
+use Rattle.trie.proofs.Update.{ent, nxt, upd-same, updC-same, updL-in}
 use Rattle.trie.proofs.Lists.{_∈_, ∈-last, ∈-take}
 use Rattle.trie.proofs.Chain.{levelRef, nodeRef}
-use Rattle.trie.proofs.Tree.{Tree, Published, inside-pub, OnPath, path-down}
-use Rattle.trie.proofs.World.{World, Placed, Structure, Partition, Deep, Walk, along, gone, Other}
+use Rattle.trie.proofs.Tree.{Published, inside-pub, OnPath, path-down}
+use Rattle.trie.proofs.World.{World, Placed, Structure, Partition, Deep, Other}
 use Rattle.trie.proofs.Read.{not-placed, exchange-next, goBack, back-is}
 use Rattle.trie.proofs.Evolve.{Grows, Spares, path-stays, deep-stays, other-stays}
 use Rattle.trie.proofs.Stand.{Pos, at-entry, at-node, cellOf, passed, more, CountOk, more-ok, Stand, on-entry, on-node, stand-stays, Free, exchange, not-H-stays, Met, met-node, met-level, meets, deep-child}
@@ -154,9 +153,6 @@ module _ {δ : Dims} {w : World δ} (S : Structure w) (Q : Partition w) {K : ℕ
         where
           bound : w .tree .depth H < δ .depths
           bound = S .tree-ok .bounded H (s .path .pub-at)
-
-  pub peek-again : {v b H : ℕ} {x : Pos} → Searching w K H x → word w K H x ≢ levelRef H → Local w v K b (again H x)
-  peek-again s n = reads s n
 
   -- Put and Append done: the node may be placed
   pub put-done : {v b H n : ℕ} {x : Pos} → v ≢ 0 → K < δ .base ^ δ .depths → Local w v K b (put H x n) → word w K H x ≡ levelRef H → CanPlace w H (digit δ K (w .tree .depth H)) n

@@ -4,17 +4,17 @@
 use mathlib.Core.Path.{_≡_, refl, sym, ap, _∙_}
 use mathlib.Core.Logic.{_≢_, _⊎_, inl, inr}
 use mathlib.Core.List.{List, [], _∷_, _++_, append-nil, append-assoc, List·Memᴰ·not-nil, List·Memᴰ·append-cases, List·Memᴰ·eq-of-singleton, List·Memᴰ·head, List·Memᴰ·tail, Memᴰ·append-right}
-use Prim.Native.Nat.{ℕ, zero, suc, _+_, _*_, _≤_, _<_, min}
-use native.Mathlib.Decide.{ℕ-discrete, decLe}
+use Prim.Native.Nat.{ℕ, suc, _+_, _≤_, _<_, min}
+use native.Mathlib.Decide.{ℕ-discrete}
 use native.Mathlib.Omega.{arith}
 use lib.ListN.{length, length-append}
 use Rattle.trie.proofs.Digits.{Dims, top, digit}
 use Rattle.trie.proofs.Update.{Cell, ent, nxt}
-use Rattle.trie.proofs.Lists.{_∈_, NoDup}
+use Rattle.trie.proofs.Lists.{_∈_}
 use Rattle.trie.proofs.Chain.{levelRef, nodeRef, endCell, Links, end-at}
-use Rattle.trie.proofs.Tree.{Tree, Published, TreeOk, Inside, here, OnPath, not-inside, one-level, path-down, closed-depth}
-use Rattle.trie.proofs.World.{World, Placed, lastCell, end, NodeInside, RefInside, to-level, to-node, Homed, SlotAt, SlotOk, Structure, Deep, Walk, along, gone, Other}
-use Rattle.trie.proofs.Read.{NextOf, node, ends-open, ends-closed, next-of, leads-inside, ref-level, ref-node, Last, exchange-next, exchange-entry, home-path}
+use Rattle.trie.proofs.Tree.{Published, Inside, OnPath, one-level, closed-depth}
+use Rattle.trie.proofs.World.{World, Placed, lastCell, end, RefInside, to-level, to-node, SlotOk, Structure, Deep, Walk, along, gone, Other}
+use Rattle.trie.proofs.Read.{NextOf, node, ends-open, ends-closed, next-of, leads-inside, exchange-next, exchange-entry, home-path}
 use Rattle.trie.proofs.Evolve.{Grows, Changed, same, longer, shorter, walk-stays, closed-stays}
 
 pub data Pos : Type 0 where

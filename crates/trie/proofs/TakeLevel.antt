@@ -1,17 +1,17 @@
 -- Effect E2: a worker takes a level, a new one or its spare, and writes all its words (Level, SetLevel).
 -- Relies on Digits, Update, Lists, Chain, Tree, World, Evolve and Frame.
 use mathlib.Core.Path.{_≡_, refl, sym, ap, _∙_}
-use mathlib.Core.Logic.{_≢_, _⊎_, inl, inr}
-use mathlib.Core.List.{List, [], _∷_, _++_, append-nil}
-use Prim.Native.Nat.{ℕ, zero, suc, _+_, _*_, _≤_, _<_}
+use mathlib.Core.Logic.{_≢_}
+use mathlib.Core.List.{[], append-nil}
+use Prim.Native.Nat.{ℕ}
 use native.Mathlib.Decide.{ℕ-discrete}
-use Rattle.trie.proofs.Digits.{Dims, top}
-use Rattle.trie.proofs.Update.{Cell, ent, nxt, upd, upd-same, upd-other, updL, updL-in, updL-other, updL-next}
+use Rattle.trie.proofs.Digits.{Dims}
+use Rattle.trie.proofs.Update.{ent, upd, upd-same, upd-other, updL, updL-other, updL-next}
 use Rattle.trie.proofs.Lists.{_∈_}
-use Rattle.trie.proofs.Chain.{levelRef, nodeRef, endCell, EndOf, first, after, end-of, links-frame}
-use Rattle.trie.proofs.Tree.{Tree, Published, Child, Closed, TreeOk, Inside, inside-mono}
-use Rattle.trie.proofs.World.{World, Placed, lastCell, end, NodeInside, RefInside, to-level, to-node, Homed, SlotAt, SlotOk, Structure, Partition}
-use Rattle.trie.proofs.Evolve.{Grows, Spares, Changed, same}
+use Rattle.trie.proofs.Chain.{levelRef, links-frame}
+use Rattle.trie.proofs.Tree.{Published, Child, TreeOk, Inside, inside-mono}
+use Rattle.trie.proofs.World.{World, NodeInside, RefInside, to-level, to-node, Homed, Structure, Partition}
+use Rattle.trie.proofs.Evolve.{Grows, Spares, same}
 use Rattle.trie.proofs.Frame.{slot-frame}
 
 -- level G under H, at depth d, with prefix p and empty entries, held by v

@@ -1,17 +1,16 @@
 -- Effect E1: a worker takes a node, a new one or its spare, and writes both words (Take, TakeTail).
 -- Relies on Digits, Update, Lists, Chain, Tree, World, Evolve and Frame.
 use mathlib.Core.Path.{_≡_, refl, sym, ap, _∙_}
-use mathlib.Core.Logic.{_≢_, _⊎_, inl, inr}
-use mathlib.Core.List.{List, [], _∷_, _++_, append-nil}
-use Prim.Native.Nat.{ℕ, zero, suc, _+_, _*_, _≤_, _<_, _^_}
+use mathlib.Core.Logic.{_≢_}
+use mathlib.Core.List.{[], append-nil}
+use Prim.Native.Nat.{ℕ}
 use native.Mathlib.Decide.{ℕ-discrete}
-use Rattle.trie.proofs.Digits.{Dims, top}
-use Rattle.trie.proofs.Update.{Cell, ent, nxt, upd, upd-same, upd-other, updC, updC-same, updC-other}
+use Rattle.trie.proofs.Digits.{Dims}
+use Rattle.trie.proofs.Update.{Cell, nxt, upd, upd-same, upd-other, updC, updC-other}
 use Rattle.trie.proofs.Lists.{_∈_}
-use Rattle.trie.proofs.Chain.{levelRef, nodeRef, nxt-inj, ent-nxt, endCell, EndOf, first, after, end-of}
-use Rattle.trie.proofs.Tree.{Tree, Published, Inside}
-use Rattle.trie.proofs.World.{World, Placed, lastCell, end, NodeInside, RefInside, to-level, to-node, Homed, SlotAt, SlotOk, Structure, Partition}
-use Rattle.trie.proofs.Evolve.{Grows, Spares, Changed, same}
+use Rattle.trie.proofs.Chain.{nxt-inj, ent-nxt}
+use Rattle.trie.proofs.World.{World, Placed, NodeInside, RefInside, to-level, to-node, Homed, Structure, Partition}
+use Rattle.trie.proofs.Evolve.{Grows, Spares, same}
 use Rattle.trie.proofs.Frame.{held-away, slot-frame}
 
 -- node n with pixel K and next r, held by v

@@ -1,12 +1,11 @@
 -- The levels: the ghost tree, levels inside a level, levels on a key's path.
 -- Relies on Digits.
 use mathlib.Core.Path.{_≡_, refl, sym, ap, _∙_}
-use mathlib.Core.Logic.{_≢_, _⊎_, inl, inr}
+use mathlib.Core.Logic.{_≢_}
 use Prim.Native.Nat.{ℕ, zero, suc, _+_, _*_, _-_, _≤_, _<_}
-use native.Mathlib.Nat.{suc-inj, suc-ne-zero}
 use native.Mathlib.Decide.{ℕ-discrete, decLe}
 use native.Mathlib.Omega.{arith}
-use Rattle.trie.proofs.Digits.{Dims, top, digit, digit-lt, top-zero, top-suc, digits-split}
+use Rattle.trie.proofs.Digits.{Dims, top, digit, digit-lt, top-suc, digits-split}
 
 -- What is known of the levels. All but `prev` and `depth` is ghost.
 pub record Tree (δ : Dims) : Type 0 where

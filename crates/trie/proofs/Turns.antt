@@ -1,28 +1,27 @@
 -- The turns that write, each as a step from the whole invariant to the whole invariant. The turns that only read, and failed exchanges, are `stay-step`.
 -- Relies on Digits, Update, Chain, World, Evolve, Stand, Search, Move, MoveTurns, Place, TakeNode, TakeLevel, MoveOne, Redirect, Close and Whole.
-use mathlib.Core.Path.{_≡_, refl, sym, ap, _∙_}
+use mathlib.Core.Path.{_≡_, sym, ap, _∙_}
 use mathlib.Core.Logic.{_≢_, _⊎_, inl, inr, _↔_, Iff·rfl, Iff·trans}
 use mathlib.Core.List.{List, [], _∷_, _++_}
-use Prim.Native.Nat.{ℕ, zero, suc, _+_, _*_, _^_, _≤_, _<_}
+use Prim.Native.Nat.{ℕ, suc, _+_, _*_, _<_}
 use native.Mathlib.Decide.{ℕ-discrete}
 use native.Mathlib.Omega.{arith}
-use lib.ListN.{length}
-use Rattle.trie.proofs.Digits.{Dims, top, digit}
-use Rattle.trie.proofs.Update.{Cell, ent, nxt, upd, upd-same, upd-other}
-use Rattle.trie.proofs.Chain.{levelRef, nodeRef}
-use Rattle.trie.proofs.World.{World, Placed, Structure, Partition}
+use Rattle.trie.proofs.Digits.{Dims, digit}
+use Rattle.trie.proofs.Update.{upd, upd-same, upd-other}
+use Rattle.trie.proofs.Chain.{levelRef}
+use Rattle.trie.proofs.World.{World, Structure, Partition}
 use Rattle.trie.proofs.Evolve.{Grows, Spares}
-use Rattle.trie.proofs.Stand.{Pos, at-entry, at-node, passed}
-use Rattle.trie.proofs.Search.{Phase, peek, fetch, put, again, level, shut, Local, put-done, shut-done, fetch-put, level-shut, word}
-use Rattle.trie.proofs.Move.{Frame, edge, FrameOk, Step, gather, aim, set, finish, Moving, aims, sets, finishes, set-puts, set-shuts}
-use Rattle.trie.proofs.MoveTurns.{shut-moves, can-aim, aim-set, set-shut, shut-can, set-shut-moves, withNodes, AfterMove, emptied, next-one, put-can, put-moved, finish-can, Finished, search-on, set-into, finish-next}
-use Rattle.trie.proofs.Place.{place, CanPlace, place-structure, place-partition, place-grows, place-spares}
+use Rattle.trie.proofs.Stand.{Pos, at-entry, passed}
+use Rattle.trie.proofs.Search.{peek, fetch, put, level, shut, put-done, shut-done, fetch-put, level-shut, word}
+use Rattle.trie.proofs.Move.{Frame, edge, FrameOk, Setting, gather, aim, set, aims, sets, set-shuts}
+use Rattle.trie.proofs.MoveTurns.{shut-moves, can-aim, aim-set, set-shut, shut-can, set-shut-moves, put-can, finish-can}
+use Rattle.trie.proofs.Place.{place, place-structure, place-partition, place-grows, place-spares}
 use Rattle.trie.proofs.TakeNode.{takeNode, take-structure, take-partition, take-grows, take-spares}
 use Rattle.trie.proofs.TakeLevel.{takeLevel, level-structure, level-partition, level-grows, level-spares}
-use Rattle.trie.proofs.MoveOne.{moveOne, CanMove, move-structure, move-partition, move-grows, move-spares}
-use Rattle.trie.proofs.Redirect.{redirect, CanRedirect, redirect-structure, redirect-partition, redirect-grows, redirect-spares}
+use Rattle.trie.proofs.MoveOne.{moveOne, move-structure, move-partition, move-grows, move-spares}
+use Rattle.trie.proofs.Redirect.{redirect, redirect-structure, redirect-partition, redirect-grows, redirect-spares}
 use Rattle.trie.proofs.Close.{close, CanClose, close-structure, close-partition, close-grows, close-spares}
-use Rattle.trie.proofs.Whole.{Act, idle, searching, moving, Worker, ActOk, is-idle, is-searching, is-moving, WorkerOk, owner, Inv, SameOwns, inv-step, longer-book}
+use Rattle.trie.proofs.Whole.{Act, idle, searching, moving, Worker, ActOk, is-idle, is-searching, is-moving, owner, Inv, inv-step}
 
 -- an owner function changed at one number: who owned it, and who owns it now, are the only ones to notice
 owned-before : (f : ℕ → ℕ) (n u : ℕ) {v : ℕ} → u ≢ v → (m : ℕ) → upd f n u m ≡ v → f m ≡ v
@@ -149,46 +148,17 @@ module _ {δ : Dims} {w : World δ} {workers : ℕ → Worker} (I : Inv w worker
       (λ u d. redirect-spares S can (w .mover) (owner u) (omega arith) (not-theirs k d) (λ c p. p))
       (is-moving small b (aim-set S Q (aims pre k n o j c)))
 
-  -- SetPut, SetAppend done
-  pub set-put-turn : {f : Frame} {fs : List Frame} {N T : ℕ} {x : Pos} → Mine (moving f fs (set N (put T x N))) → word w (w .pixel N) T x ≡ levelRef T → (pre : List ℕ) × (now : Step) × Inv (moveOne w (f .home) (edge w f) pre N T (digit δ (w .pixel N) (w .tree .depth T))) (upd workers i (does (workers i) (moving (withNodes f pre) fs now)))
-  set-put-turn {f} {fs} {N} {T} {x} (is-moving small b (sets pre k n (set-puts e s l) a)) q = by (put-moved S Q pre k s l q a)
-    where
-      d : ℕ
-      d = digit δ (w .pixel N) (w .tree .depth T)
+  -- SetPut, SetAppend done: node N stands in T; the next step is the caller's
+  pub put-step : {f : Frame} {N T : ℕ} {x : Pos} (pre : List ℕ) (k : FrameOk w (owner i) f (pre ++ (N ∷ []))) (s : Setting w N (f .child) T x) (l : passed x < δ .limit) (q : word w (w .pixel N) T x ≡ levelRef T) (now : Act) → ActOk (moveOne w (f .home) (edge w f) pre N T (digit δ (w .pixel N) (w .tree .depth T))) (owner i) (workers i .key) (workers i .since) now → Inv (moveOne w (f .home) (edge w f) pre N T (digit δ (w .pixel N) (w .tree .depth T))) (upd workers i (does (workers i) now))
+  put-step {f} {N} {T} {x} pre k s l q now o =
+      let can = put-can S pre k s l q in
+      move-step now (move-grows S can) (move-structure S can) (move-partition S can Q) (λ m v. Iff·rfl) (λ g v. Iff·rfl)
+      (λ u d. move-spares S can (owner u) (omega arith) (not-theirs k d)) o
 
-      can : CanMove w (f .home) (edge w f) pre N T d
-      can = put-can S pre k s l q
-
-      step : (now : Step) → Moving (moveOne w (f .home) (edge w f) pre N T d) (owner i) (workers i .key) (withNodes f pre) fs now → Inv (moveOne w (f .home) (edge w f) pre N T d) (upd workers i (does (workers i) (moving (withNodes f pre) fs now)))
-      step now m =
-          move-step (moving (withNodes f pre) fs now) (move-grows S can) (move-structure S can) (move-partition S can Q) (λ m v. Iff·rfl) (λ g v. Iff·rfl)
-          (λ u d. move-spares S can (owner u) (omega arith) (not-theirs k d)) (is-moving small b m)
-
-      by : AfterMove (moveOne w (f .home) (edge w f) pre N T d) (owner i) (workers i .key) f fs pre → (pre : List ℕ) × (now : Step) × Inv (moveOne w (f .home) (edge w f) pre N T d) (upd workers i (does (workers i) (moving (withNodes f pre) fs now)))
-      by (emptied e m) = (pre, finish, step finish m)
-      by (next-one N′ m) = (pre, aim N′ (f .child), step (aim N′ (f .child)) m)
-
-  -- MoveEnd
-  pub finish-turn : {f : Frame} {fs : List Frame} → Mine (moving f fs finish) → (now : Act) × Inv (redirect w (f .home) (edge w f) (levelRef (f .child)) (upd (w .mover) (f .child) 0)) (upd workers i (does (workers i) now))
-  finish-turn {f} {fs} (is-moving small b (finishes k n a)) = by (finish-next S (workers i .since) (finishes k n a))
-    where
-      mv : ℕ → ℕ
-      mv = upd (w .mover) (f .child) 0
-
-      w′ : World δ
-      w′ = redirect w (f .home) (edge w f) (levelRef (f .child)) mv
-
-      can : CanRedirect w (f .home) (edge w f) (levelRef (f .child))
-      can = finish-can S k
-
-      kept : {j : ℕ} → j ≢ i → (c : ℕ) → w .mover c ≡ owner j → mv c ≡ owner j
-      kept d c p = upd-other (w .mover) (f .child) 0 c (λ y. apart d (sym (k .mine) ∙ ap (w .mover) (sym y) ∙ p)) ∙ p
-
-      step : (now : Act) → ActOk w′ (owner i) (workers i .key) (workers i .since) now → Inv w′ (upd workers i (does (workers i) now))
-      step now m =
-          move-step now (redirect-grows S can mv) (redirect-structure S can mv) (redirect-partition S can mv Q) (λ m v. Iff·rfl) (λ g v. Iff·rfl)
-          (λ u d. redirect-spares S can mv (owner u) (omega arith) (not-theirs k d) (kept d)) m
-
-      by : {gs : List Frame} → Finished w′ (owner i) (workers i .key) (workers i .since) f gs → (now : Act) × Inv w′ (upd workers i (does (workers i) now))
-      by (search-on l) = (searching (peek (f .child) at-entry), step (searching (peek (f .child) at-entry)) (is-searching small b l))
-      by (set-into {g} {gs} N m) = (moving g gs (aim N (f .child)), step (moving g gs (aim N (f .child))) (is-moving small b m))
+  -- MoveEnd: the entry leads to the child, which nobody moves to any more; the next step is the caller's
+  pub finish-step : {f : Frame} (k : FrameOk w (owner i) f []) (now : Act) → ActOk (redirect w (f .home) (edge w f) (levelRef (f .child)) (upd (w .mover) (f .child) 0)) (owner i) (workers i .key) (workers i .since) now → Inv (redirect w (f .home) (edge w f) (levelRef (f .child)) (upd (w .mover) (f .child) 0)) (upd workers i (does (workers i) now))
+  finish-step {f} k now o =
+      let mv = upd (w .mover) (f .child) 0 in
+      let can = finish-can S k in
+      move-step now (redirect-grows S can mv) (redirect-structure S can mv) (redirect-partition S can mv Q) (λ m v. Iff·rfl) (λ g v. Iff·rfl)
+      (λ u d. redirect-spares S can mv (owner u) (omega arith) (not-theirs k d) (λ c p. upd-other (w .mover) (f .child) 0 c (λ y. apart d (sym (k .mine) ∙ ap (w .mover) (sym y) ∙ p)) ∙ p)) o

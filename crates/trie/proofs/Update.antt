@@ -1,8 +1,8 @@
 -- A function changed at one argument, and its two laws. Nothing else looks inside.
 -- Relies on the language's library alone.
-use mathlib.Core.Path.{_≡_, refl, sym, ap, _∙_}
+use mathlib.Core.Path.{_≡_, refl}
 use mathlib.Core.Logic.{_≢_, Dec·and}
-use Prim.Native.Nat.{ℕ, zero, suc}
+use Prim.Native.Nat.{ℕ}
 use native.Mathlib.Decide.{ℕ-discrete}
 
 pub pick : {A P : Type 0} → Dec P → A → A → A
@@ -18,12 +18,6 @@ pub pick-no : {A P : Type 0} (d : Dec P) (a b : A) → ¬ P → pick d a b ≡ b
 unfolding pick
 pick-no (yes p) a b h = absurd (h p)
 pick-no (no p) a b h = refl
-
--- what holds of both holds of the choice
-pub pick-elim : {A P : Type 0} (T : A → Type 0) (d : Dec P) {a b : A} → (P → T a) → (¬ P → T b) → T (pick d a b)
-unfolding pick
-pick-elim T (yes p) f g = f p
-pick-elim T (no p) f g = g p
 
 -- f, but a at x
 pub upd : {A : Type 0} → (ℕ → A) → ℕ → A → ℕ → A

@@ -1,19 +1,17 @@
 -- All workers: the whole invariant, and that a turn of one worker keeps it.
 -- Relies on Digits, Update, Chain, World, Evolve, Stand, Search and Move.
-use mathlib.Core.Path.{_≡_, refl, sym, ap, _∙_}
-use mathlib.Core.Logic.{_≢_, _⊎_, inl, inr, _↔_}
-use mathlib.Core.List.{List, [], _∷_, _++_}
-use Prim.Native.Nat.{ℕ, zero, suc, _+_, _*_, _^_, _≤_, _<_}
+use mathlib.Core.Path.{_≡_}
+use mathlib.Core.Logic.{_≢_, _↔_}
+use mathlib.Core.List.{List}
+use Prim.Native.Nat.{ℕ, suc, _^_, _≤_, _<_}
 use native.Mathlib.Decide.{ℕ-discrete}
 use native.Mathlib.Omega.{arith}
 use lib.ListN.{length, length-append}
-use Rattle.trie.proofs.Digits.{Dims, top, digit}
-use Rattle.trie.proofs.Update.{Cell, ent, nxt, upd, upd-same, upd-other}
-use Rattle.trie.proofs.Chain.{levelRef, nodeRef}
-use Rattle.trie.proofs.World.{World, Placed, Structure, Partition}
+use Rattle.trie.proofs.Digits.{Dims}
+use Rattle.trie.proofs.Update.{upd, upd-same, upd-other}
+use Rattle.trie.proofs.World.{World, Structure, Partition}
 use Rattle.trie.proofs.Evolve.{Grows, Spares}
-use Rattle.trie.proofs.Stand.{Pos, at-entry, at-node, passed}
-use Rattle.trie.proofs.Search.{Phase, peek, fetch, put, again, level, shut, Local, local-stays}
+use Rattle.trie.proofs.Search.{Phase, level, Local, local-stays}
 use Rattle.trie.proofs.Move.{Frame, Step, Moving, moving-stays}
 
 pub data Act : Type 0 where

@@ -1,15 +1,15 @@
 -- The table's memory as functions, with the ghost state beside it, and the invariant's shared clauses.
 -- Relies on Digits, Update, Lists, Chain and Tree.
-use mathlib.Core.Path.{_≡_, refl, sym, ap, _∙_}
-use mathlib.Core.Logic.{_≢_, _⊎_, inl, inr}
+use mathlib.Core.Path.{_≡_}
+use mathlib.Core.Logic.{_≢_}
 use mathlib.Core.List.{List, [], _∷_, _++_}
-use Prim.Native.Nat.{ℕ, zero, suc, _+_, _*_, _^_, _≤_, _<_}
+use Prim.Native.Nat.{ℕ, suc, _+_, _*_, _^_, _≤_, _<_}
 use lib.ListN.{length}
-use Rattle.trie.proofs.Digits.{Dims, top, digit}
-use Rattle.trie.proofs.Update.{Cell, ent, nxt}
+use Rattle.trie.proofs.Digits.{Dims, top}
+use Rattle.trie.proofs.Update.{Cell, ent}
 use Rattle.trie.proofs.Lists.{_∈_, NoDup}
 use Rattle.trie.proofs.Chain.{levelRef, nodeRef, endCell, Links}
-use Rattle.trie.proofs.Tree.{Tree, Published, TreeOk, Inside, OnPath}
+use Rattle.trie.proofs.Tree.{Tree, Published, TreeOk, Inside}
 
 pub record World (δ : Dims) : Type 0 where
   pub tree : Tree δ

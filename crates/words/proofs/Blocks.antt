@@ -97,6 +97,21 @@ pub above-sets : (vs l : List ℕ) (i j : ℕ) → i + length vs ≤ j → getD 
 above-sets [] l i j h = refl
 above-sets (v ∷ vs) l i j h = above-sets vs (set l i v) (suc i) j (omega arith) ∙ getD-set-other l i j v 0 (λ e. omega arith)
 
+-- a block that is filled reads as the word, and a word outside it as before
+pub fill-in : (n : ℕ) (l : List ℕ) (i v k : ℕ) → k < n → i + n ≤ length l → getD (fill l i n v) (i + k) 0 ≡ v
+unfolding fill
+fill-in zero l i v k h r = absurd (omega arith)
+fill-in (suc n) l i v zero h r = rw add-zero (below-sets (replicate n v) (set l i v) (suc i) i (omega arith) ∙ getD-set-same l i v 0 (omega arith))
+fill-in (suc n) l i v (suc k) h r = rw (add-suc, ← suc-add) (fill-in n (set l i v) (suc i) v k (omega arith) (rw length-set (omega arith)))
+
+pub fill-below : (l : List ℕ) (i n v j : ℕ) → j < i → getD (fill l i n v) j 0 ≡ getD l j 0
+unfolding fill
+fill-below l i n v j h = below-sets (replicate n v) l i j h
+
+pub fill-above : (l : List ℕ) (i n v j : ℕ) → i + n ≤ j → getD (fill l i n v) j 0 ≡ getD l j 0
+unfolding fill
+fill-above l i n v j h = above-sets (replicate n v) l i j (rw length-replicate h)
+
 -- a block that was written is read back
 pub read-back : (vs l : List ℕ) (i : ℕ) → i + length vs ≤ length l → cells (sets l i vs) i (length vs) ≡ vs
 unfolding cells

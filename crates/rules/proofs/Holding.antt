@@ -1,5 +1,5 @@
--- What a worker holds is taken: the parts of question 6 on a node or level in hand or spare.
--- Relies on the theory's owners and on the counters.
+-- What a worker holds is taken, and a level is left for one that holds none: the parts of question 6 on nodes and levels in hand or spare.
+-- Relies on the theory's owners and count of levels, and on the counters.
 use Prim.Native.Nat.{ℕ, zero, suc, _≤_, _<_}
 use mathlib.Core.Path.{_≡_, refl, sym, _∙_}
 use mathlib.Core.Logic.{_≢_}
@@ -7,13 +7,17 @@ use mathlib.Core.Bool.{true}
 use native.Mathlib.Omega.{arith}
 use borrow.Author.Tests.{le-leb}
 use Rattle.words.proofs.Choice.{both-true}
+use Rattle.settings.specs.Sizes.{levelCount}
 use Rattle.settings.specs.declared.Settings.{Settings}
 use Rattle.areas.specs.Memory.{Memory}
 use Rattle.record.specs.Layout.{Record}
 use Rattle.rules.specs.Asked.{nodeInHand, spareNode, levelInHand, spareLevel}
 use Rattle.trie.proofs.Fresh.{owned-taken}
+use Rattle.trie.proofs.Levels.{one-left}
 use Rattle.trie.proofs.Whole.{Worker, owner}
 use Rattle.rules.proofs.Invariant.{WorldOf, At}
+use Rattle.rules.proofs.Reading.{not-free, node-room}
+use Rattle.rules.proofs.Turned.{limit-pos}
 
 -- a number + 1 that is held, or 0, is at most the counter
 held-le : (held taken : ℕ) → ((n : ℕ) → held ≡ suc n → n < taken) → held ≤ taken
@@ -57,3 +61,12 @@ module _ {w : ℕ} {s₀ s : Settings} {m : Memory} {W : WorldOf w s₀} {ws : �
   pub level-hand-ok : {g : ℕ} → ws i .level ≡ suc g → levelInHand s (r .head) ≡ true
   unfolding levelInHand
   level-hand-ok e = let h = a .matches .level-is ∙ e in both-true (le-leb 1 (r .head .«held_level») (omega arith)) (le-leb _ _ level-le)
+
+  -- a worker that holds no level finds one left
+  pub level-left : ws i .level ≡ 0 → s .«levels_taken» < levelCount w s₀
+  unfolding levelCount
+  level-left z = one-left (a .levels) i (a .here) (s₀ .nodes) (limit-pos a) (λ n p. node-room (a .table) n (not-free p)) z
+
+  pub same-count : levelCount w s ≡ levelCount w s₀
+  unfolding levelCount
+  same-count = let e = a .table .same in rw (e .nodes-is, e .limit-is, e .workers-is) refl
