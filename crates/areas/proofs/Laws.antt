@@ -33,6 +33,10 @@ module _ (nodes : List ℕ) (i : ℕ) where
   unfolding nextAt
   next-steps a b = simp (a, b)
 
+-- a word at place b
+pub one-steps : (l₀ : List ℕ) (b v : ℕ) {l : List ℕ} {p : ℕ} → l ≡ set l₀ p v → p ≡ b → l ≡ set l₀ b v
+one-steps l₀ b v a c = simp (a, c)
+
 -- two words at places b and b + 1
 pub two-steps :
     (l₀ : List ℕ) (b x y : ℕ) {l m : List ℕ} {p q : ℕ}
@@ -80,7 +84,7 @@ module _ (w : ℕ) (nodes levels : List ℕ) (x : Cell) where
   set-entry v a b c = simp (a, b, c, add-assoc)
 
   pub set-next :
-      (v : ℕ) {n : List ℕ} {p i : ℕ}
-      → n ≡ set nodes p v → p ≡ 2 * i + 1 → x ≡ Next i → memory n levels ≡ setCell w (memory nodes levels) x v
+      (v : ℕ) {n : List ℕ} {i : ℕ}
+      → n ≡ set nodes (2 * i + 1) v → x ≡ Next i → memory n levels ≡ setCell w (memory nodes levels) x v
   unfolding setCell
-  set-next v a b c = simp (a, b, c)
+  set-next v a b = simp (a, b)

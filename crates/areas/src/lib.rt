@@ -138,6 +138,13 @@ pub fn cell_at(x: Cell, nodes: &[u32], levels: &[u32]) -> u32
     }
 }
 
+// Node i's next word is written.
+pub fn set_next(nodes: &mut [u32], i: u32, v: u32)
+    ensures { λ r. ⌜ now (nodes .exit) ≡ set (now (nodes .entry)) (2 * i + 1) v ⌝ }
+{
+    put(nodes, node_place(i, 1), v);
+}
+
 // A word is written to a cell.
 pub fn set_cell(x: Cell, v: u32, nodes: &mut [u32], levels: &mut [u32])
     ensures { λ r. ⌜ memory (now (nodes .exit)) (now (levels .exit)) ≡ setCell 3 (memory (now (nodes .entry)) (now (levels .entry))) x v ⌝ }
@@ -147,7 +154,7 @@ pub fn set_cell(x: Cell, v: u32, nodes: &mut [u32], levels: &mut [u32])
             put(levels, level_place(g, 2 + (e as usize)), v);
         }
         Cell::Next(i) => {
-            put(nodes, node_place(i, 1), v);
+            set_next(nodes, i, v);
         }
     }
 }

@@ -27,7 +27,7 @@ use words::eq;
 use words::fill_words;
 use words::le;
 
-fn replied(number: u32, a: Answer, s: Settings) -> Reply
+pub fn replied(number: u32, a: Answer, s: Settings) -> Reply
     ensures { λ r. ⌜ r ≡ reply number a 0 s ⌝ }
 {
     Reply {
@@ -38,7 +38,7 @@ fn replied(number: u32, a: Answer, s: Settings) -> Reply
     }
 }
 
-fn refusal(number: u32, s: Settings) -> Reply
+pub fn refusal(number: u32, s: Settings) -> Reply
     ensures { λ r. ⌜ r ≡ reply number Answer.Nothing 0 s ⌝ }
 {
     replied(number, Answer::Nothing, s)
@@ -72,7 +72,7 @@ fn in_frame(row: u32, column: u32) -> bool
     and(le(row, 4095), le(column, 4095))
 }
 
-fn is_idle(h: Head) -> bool
+pub fn is_idle(h: Head) -> bool
     ensures { λ r. ⌜ r ≡ eqb (kindNo (h .kind)) 0 ⌝ }
 {
     let k = h.kind;
@@ -105,7 +105,7 @@ fn pixel_number(row: u32, column: u32) -> u32
 }
 
 // Questions 1 to 4, which start, turn and last answer ask of a worker.
-fn refused_worker(s: Settings, i: u32, nodes: &[u32], levels: &[u32], workers: &[u32]) -> u32
+pub fn refused_worker(s: Settings, i: u32, nodes: &[u32], levels: &[u32], workers: &[u32]) -> u32
     ensures { λ r. ⌜ r ≡ firstFour 3 s i (length (now (nodes .entry))) (length (now (levels .entry))) (length (now (workers .entry))) ⌝ }
 {
     let q = s.refused(nodes.len(), levels.len(), workers.len());

@@ -3,3 +3,4 @@
 pub mod Asked
 pub mod Steps
 pub mod Turns
+pub mod ByKind

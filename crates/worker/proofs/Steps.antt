@@ -1,11 +1,12 @@
--- The steps that kinds of turn share, in the code: one law for each way, over any width, cell, next kind and count.
--- Relies on rules for what a step does.
-use mathlib.Core.Path.{_≡_}
+-- The steps that kinds of a search share, in the code: one law for each way, over any width, cell, next kind and count.
+-- Relies on rules for what a step does, on steps for the code's cut of Level and Close.
+use mathlib.Core.Path.{_≡_, ap, _∙_}
 use mathlib.Core.Bool.{true, false}
-use mathlib.Core.List.{List}
-use Prim.Native.Nat.{ℕ, _+_, _-_}
+use mathlib.Core.List.{List, []}
+use Prim.Native.Nat.{ℕ, _+_, _-_, _≤_}
 use lib.Dec.{eqb}
 use Rattle.words.specs.Choice.{pick}
+use Rattle.words.specs.Digits.{depths}
 use Rattle.settings.specs.declared.Settings.{Settings}
 use Rattle.areas.specs.declared.Cell.{Cell}
 use Rattle.areas.specs.Memory.{Memory, memory, levelRef, nodeRef, isNode, named, pixelAt, cellAt, setCell, fillNode}
@@ -14,28 +15,21 @@ use Rattle.record.specs.declared.Kind.the-variants.{Look, Tail}
 use Rattle.record.specs.declared.Answer.the-variants.{New, Found, Open}
 use Rattle.record.specs.declared.Head.{Head}
 use Rattle.rules.specs.Heads.{to, toLevel, toNode, holdingNode, ended}
-use Rattle.rules.specs.Steps.{expected, peeked, tookNode, withNode, takeNode}
-use Rattle.rules.specs.Searching.{placed, metNode, met, readWord}
+use Rattle.rules.specs.Steps.{expected, more, tookNode, withNode, takeNode, takeLevel, closed, childOf}
+use Rattle.rules.specs.Searching.{placed, metNode, met, readWord, followWord}
 use Rattle.worker.specs.declared.Turned.{Turned}
-use Rattle.worker.specs.Tried.{Tried, tried, turned, turnedOf}
-
--- a cell is looked at
-module _ (h : Head) (word : ℕ) (here other : Kind) where
-  pub peek-here : {r : Head} → r ≡ to here h → eqb word (levelRef (h .level)) ≡ true → r ≡ peeked h word here other
-  unfolding peeked expected pick
-  peek-here a e = simp (e, a)
-
-  pub peek-other : {r : Head} → r ≡ to other h → eqb word (levelRef (h .level)) ≡ false → r ≡ peeked h word here other
-  unfolding peeked expected pick
-  peek-other a e = simp (e, a)
+use Rattle.steps.specs.Cut.{levelCut, takeLevelCut, CloseCut, closeCut, closedCut, begun}
+use Rattle.steps.specs.Tried.{Tried, tried}
+use Rattle.steps.proofs.Ties.{take-level-cut, closed-cut, closed-level}
+use Rattle.worker.specs.Tried.{turned, turnedOf}
 
 -- a node is taken
 module _ (k : Kind) (s : Settings) (h : Head) where
   pub node-filled :
       (i : ℕ) (nodes levels : List ℕ) {t : Turned} {x : Head} {n : List ℕ} {r : ℕ}
-      → t ≡ turnedOf 0 Open s x → x ≡ holdingNode k (i + 1) h → n ≡ fillNode nodes i (h .pixel) r → r ≡ levelRef (h .level)
+      → t ≡ turnedOf 0 Open s x 0 → x ≡ holdingNode k (i + 1) h → n ≡ fillNode nodes i (h .pixel) r → r ≡ levelRef (h .level)
       → turned t (memory n levels) ≡ tried 0 (withNode k s h i (memory nodes levels))
-  unfolding withNode
+  unfolding withNode begun pick
   node-filled i nodes levels a b c d = simp (a, b, c, d)
 
   pub take-next :
@@ -53,33 +47,33 @@ module _ (k : Kind) (s : Settings) (h : Head) where
 module _ (w : ℕ) (failed : Kind) (s : Settings) (h : Head) (x : Cell) (m : Memory) where
   pub place-done :
       {t : Turned} {y : Head} {m′ : Memory} {r v : ℕ}
-      → t ≡ turnedOf 0 (New (h .«held_node» - 1)) s y → y ≡ ended 1 (h .«held_node» - 1) 0 h
+      → t ≡ turnedOf 0 (New (h .«held_node» - 1)) s y 0 → y ≡ ended 1 (h .«held_node» - 1) 0 h
       → m′ ≡ setCell w m x r → r ≡ nodeRef (h .«held_node» - 1)
       → v ≡ cellAt w m x → eqb v (levelRef (h .level)) ≡ true → turned t m′ ≡ tried 0 (placed w failed s h x m)
-  unfolding placed expected pick
+  unfolding placed expected begun pick
   place-done a b c d e f = simp (← e, f, a, b, c, d)
 
   pub place-failed :
       {t : Turned} {y : Head} {v : ℕ}
-      → t ≡ turnedOf 0 Open s y → y ≡ to failed h → v ≡ cellAt w m x → eqb v (levelRef (h .level)) ≡ false
+      → t ≡ turnedOf 0 Open s y 0 → y ≡ to failed h → v ≡ cellAt w m x → eqb v (levelRef (h .level)) ≡ false
       → turned t m ≡ tried 0 (placed w failed s h x m)
-  unfolding placed expected pick
+  unfolding placed expected begun pick
   place-failed a b e f = simp (← e, f, a, b)
 
 -- a word is read again
 module _ (s : Settings) (h : Head) (c : ℕ) where
   pub met-found :
       (i : ℕ) (nodes levels : List ℕ) {t : Turned} {y : Head} {p : ℕ}
-      → t ≡ turnedOf 0 (Found i) s y → y ≡ ended 2 i (h .«held_node») h → p ≡ pixelAt nodes i → eqb p (h .pixel) ≡ true
+      → t ≡ turnedOf 0 (Found i) s y 0 → y ≡ ended 2 i (h .«held_node») h → p ≡ pixelAt nodes i → eqb p (h .pixel) ≡ true
       → turned t (memory nodes levels) ≡ tried 0 (metNode s h c i (memory nodes levels))
-  unfolding metNode pick
+  unfolding metNode begun pick
   met-found i nodes levels a b d e = simp (← d, e, a, b)
 
   pub met-other :
       (i : ℕ) (nodes levels : List ℕ) {t : Turned} {y : Head} {p : ℕ}
-      → t ≡ turnedOf 0 Open s y → y ≡ toNode Tail i c h → p ≡ pixelAt nodes i → eqb p (h .pixel) ≡ false
+      → t ≡ turnedOf 0 Open s y 0 → y ≡ toNode Tail i c h → p ≡ pixelAt nodes i → eqb p (h .pixel) ≡ false
       → turned t (memory nodes levels) ≡ tried 0 (metNode s h c i (memory nodes levels))
-  unfolding metNode pick
+  unfolding metNode begun pick
   met-other i nodes levels a b d e = simp (← d, e, a, b)
 
   pub met-node :
@@ -90,8 +84,8 @@ module _ (s : Settings) (h : Head) (c : ℕ) where
 
   pub met-level :
       (g word : ℕ) (m : Memory) {t : Turned} {y : Head}
-      → t ≡ turnedOf 0 Open s y → y ≡ toLevel Look g h → isNode word ≡ false → turned t m ≡ tried 0 (met s h c g word m)
-  unfolding met pick
+      → t ≡ turnedOf 0 Open s y 0 → y ≡ toLevel Look g h → isNode word ≡ false → turned t m ≡ tried 0 (met s h c g word m)
+  unfolding met begun pick
   met-level g word m a b e = simp (e, a, b)
 
 pub read-there :
@@ -99,3 +93,28 @@ pub read-there :
     → t ≡ tried 0 (met s h 1 g word m) → g ≡ named word → t ≡ tried 0 (readWord s h word m)
 unfolding readWord
 read-there s h word m a b = simp (a, b)
+
+pub follow-there :
+    (w : ℕ) (s : Settings) (h : Head) (word : ℕ) (nodes levels : List ℕ) {t : Tried} {c g n : ℕ}
+    → t ≡ tried 0 (met s h c g word (memory nodes levels)) → c ≡ more s (h .count)
+    → g ≡ childOf w levels (depths w - 1) (h .level) n → n ≡ named word → t ≡ tried 0 (followWord w s h word (memory nodes levels))
+unfolding followWord
+follow-there w s h word nodes levels a b d e = simp (a, b, d, e)
+
+-- a level is taken
+module _ (w : ℕ) (s : Settings) (h : Head) (nodes levels : List ℕ) where
+  pub level-there :
+      (k : Kind) {t : Turned} {s′ : Settings} {y : Head} {l : List ℕ}
+      → t ≡ turnedOf 0 Open s′ y 0 → levelCut s′ y l ≡ takeLevelCut w k s h levels
+      → turned t (memory nodes l) ≡ tried 0 (takeLevel w k s h [] (memory nodes levels))
+  unfolding begun pick
+  level-there k a e = simp (a, take-level-cut w s h [] (memory nodes levels) k, ← e)
+
+  -- R's next is exchanged
+  pub close-there :
+      (failed : Kind) {t : Turned} {y : Head} {c : ℕ} {n : List ℕ}
+      → t ≡ turnedOf 0 Open s y c → closeCut y c n ≡ closedCut failed h nodes → 1 ≤ h .«held_level»
+      → turned t (memory n levels) ≡ tried 0 (closed w failed s h [] (memory nodes levels))
+  close-there failed {t} {y} {c} {n} a e one =
+      let g : y .level ≡ h .level = ap (λ (x : CloseCut). x .head .level) e ∙ closed-level failed h nodes in
+      simp (a, closed-cut w s h [] (memory nodes levels) failed one, ← e, g)

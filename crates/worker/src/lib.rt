@@ -1,34 +1,54 @@
-// A worker: its record's head by value, with a method for each kind of turn that hands back the advanced worker.
-// Relies on areas for cells, on record for the head, on rules for the definitions.
+// A worker: its record's head by value, with a method for each kind of turn of a search that hands back the advanced worker.
+// Relies on steps for what searching and moving do alike, on areas for cells, on record for the head, on rules for the definitions.
 ghost use mathlib.Core.Path.{_≡_};
 ghost use mathlib.Core.List.{[]};
 ghost use Prim.Native.Nat.{_≤_};
 ghost use Rattle.settings.specs.Sizes.{Sized};
-ghost use Rattle.areas.specs.Memory.{memory};
-ghost use Rattle.rules.specs.Heads.{to, toLevel, toNode, holdingNode, ended};
-ghost use Rattle.rules.specs.Steps.{peeked, tookNode, withNode, takeNode};
-ghost use Rattle.rules.specs.Searching.{entryOf, placed, metNode, met, readWord, look, take, put, read};
-ghost use Rattle.rules.specs.Asked.{nodeInHand, picksIn, pixelFits, readsRef, comparesRef, nodeLeft, takes, looks, puts, reads};
-ghost use Rattle.worker.specs.Tried.{tried, unlessSix, unlessNine, turned, turnedOf};
+ghost use Rattle.areas.specs.Memory.{memory, depthAt};
+ghost use Rattle.rules.specs.Steps.{withNode, takeNode, takeLevel, closed};
+ghost use Rattle.rules.specs.Searching.{entryOf, placed, metNode, met, readWord, followWord, look, take, put, read, tail, takeTail, append, level, close, follow};
+ghost use Rattle.rules.specs.Asked.{nodeLeft, takes, tails, takesLevel, closes, looks, puts, reads, appends, follows};
+ghost use Rattle.steps.specs.Tried.{tried, unlessSix, unlessNine};
+ghost use Rattle.worker.specs.Tried.{turned, turnedOf};
+ghost use Rattle.worker.specs.Searching.{searchTried};
 use areas::Cell;
 use areas::cell_at;
-use areas::depth_at;
 use areas::entry_cell;
 use areas::fill_node;
 use areas::is_node;
 use areas::level_ref;
 use areas::level_taken;
 use areas::named;
+use areas::next_at;
 use areas::node_ref;
-use areas::node_taken;
 use areas::pixel_at;
-use areas::ref_taken;
 use areas::refers_to;
 use areas::set_cell;
 use record::Answer;
 use record::Head;
 use record::Kind;
 use settings::Settings;
+use steps::by_count;
+use steps::child_of;
+use steps::close_next;
+use steps::closes;
+use steps::compares_ref;
+use steps::ended;
+use steps::goes_back;
+use steps::holding_node;
+use steps::more;
+use steps::node_in_hand;
+use steps::peeked;
+use steps::picks_in;
+use steps::reads_ref;
+use steps::stands_at;
+use steps::tails;
+use steps::take_level;
+use steps::takes_level;
+use steps::to;
+use steps::to_level;
+use steps::to_node;
+use steps::took_node;
 use words::and;
 use words::eq;
 use words::le;
@@ -39,130 +59,37 @@ pub struct Worker {
     pub head: Head,
 }
 
-// What a turn gives: its number (0, or 6 or 9), answer, settings, and the advanced worker.
+// What a turn gives: its number (0, or 6 or 9), answer, settings, the advanced worker, and the number + 1 of the level that a Move has begun to, or 0.
 pub struct Turned {
     pub number: u32,
     pub answer: Answer,
     pub settings: Settings,
     pub worker: Worker,
+    pub child: u32,
 }
 
-fn to(k: Kind, h: Head) -> Head
-    ensures { λ r. ⌜ r ≡ to k h ⌝ }
-{
-    Head {
-        kind: k,
-        pixel: h.pixel,
-        level: h.level,
-        node: h.node,
-        count: h.count,
-        held_node: h.held_node,
-        held_level: h.held_level,
-        answer: h.answer,
-        answer_node: h.answer_node,
-    }
-}
-
-fn to_level(k: Kind, g: u32, h: Head) -> Head
-    ensures { λ r. ⌜ r ≡ toLevel k g h ⌝ }
-{
-    let mut n = to(k, h);
-    n.level = g;
-    n
-}
-
-fn to_node(k: Kind, i: u32, c: u32, h: Head) -> Head
-    ensures { λ r. ⌜ r ≡ toNode k i c h ⌝ }
-{
-    let mut n = to(k, h);
-    n.node = i;
-    n.count = c;
-    n
-}
-
-fn holding_node(k: Kind, i: u32, h: Head) -> Head
-    ensures { λ r. ⌜ r ≡ holdingNode k i h ⌝ }
-{
-    let mut n = to(k, h);
-    n.held_node = i;
-    n
-}
-
-fn ended(a: u32, i: u32, spare: u32, h: Head) -> Head
-    ensures { λ r. ⌜ r ≡ ended a i spare h ⌝ }
-{
-    let mut n = to(Kind::Idle, h);
-    n.held_node = spare;
-    n.answer = a;
-    n.answer_node = i;
-    n
-}
-
-fn answered(number: u32, a: Answer, s: Settings, h: Head) -> Turned
-    ensures { λ r. ⌜ r ≡ turnedOf number a s h ⌝ }
+fn answered(number: u32, a: Answer, s: Settings, h: Head, child: u32) -> Turned
+    ensures { λ r. ⌜ r ≡ turnedOf number a s h child ⌝ }
 {
     Turned {
         number: number,
         answer: a,
         settings: s,
         worker: Worker { head: h },
+        child: child,
     }
 }
 
 fn going(s: Settings, h: Head) -> Turned
-    ensures { λ r. ⌜ r ≡ turnedOf 0 Answer.Open s h ⌝ }
+    ensures { λ r. ⌜ r ≡ turnedOf 0 Answer.Open s h 0 ⌝ }
 {
-    answered(0, Answer::Open, s, h)
+    answered(0, Answer::Open, s, h, 0)
 }
 
 fn refused_six(s: Settings, h: Head) -> Turned
-    ensures { λ r. ⌜ r ≡ turnedOf 6 Answer.Nothing s h ⌝ }
+    ensures { λ r. ⌜ r ≡ turnedOf 6 Answer.Nothing s h 0 ⌝ }
 {
-    answered(6, Answer::Nothing, s, h)
-}
-
-fn took_node(s: Settings) -> Settings
-    requires { ⌜ Sized s ⌝ }
-    ensures { λ r. ⌜ r ≡ tookNode s ⌝ }
-{
-    let mut t = s;
-    t.nodes_taken = s.nodes_taken + 1;
-    t
-}
-
-// Question 6, in the parts that the kinds share.
-fn node_in_hand(s: Settings, h: Head) -> bool
-    ensures { λ r. ⌜ r ≡ nodeInHand s h ⌝ }
-{
-    and(le(1, h.held_node), le(h.held_node, s.nodes_taken))
-}
-
-fn picks_in(s: Settings, g: u32, levels: &[u32]) -> bool
-    ensures { λ r. ⌜ r ≡ picksIn 3 s g (now (levels .entry)) ⌝ }
-{
-    and(level_taken(s, g), le(depth_at(levels, g), 7))
-}
-
-fn pixel_fits(s: Settings, i: u32, nodes: &[u32]) -> bool
-    ensures { λ r. ⌜ r ≡ pixelFits s i (now (nodes .entry)) ⌝ }
-{
-    and(node_taken(s, i), le(pixel_at(nodes, i), 16777215))
-}
-
-fn compares_ref(s: Settings, word: u32, nodes: &[u32]) -> bool
-    ensures { λ r. ⌜ r ≡ comparesRef s word (now (nodes .entry)) ⌝ }
-{
-    if is_node(word) {
-        pixel_fits(s, named(word), nodes)
-    } else {
-        level_taken(s, named(word))
-    }
-}
-
-fn reads_ref(s: Settings, x: Cell, nodes: &[u32], levels: &[u32]) -> bool
-    ensures { λ r. ⌜ r ≡ readsRef 3 s x (memory (now (nodes .entry)) (now (levels .entry))) ⌝ }
-{
-    ref_taken(s, cell_at(x, nodes, levels))
+    answered(6, Answer::Nothing, s, h, 0)
 }
 
 // Question 9: a node is spare or left.
@@ -181,17 +108,6 @@ fn entry_of(h: Head, levels: &[u32]) -> Cell
     ensures { λ r. ⌜ r ≡ entryOf 3 h (now (levels .entry)) ⌝ }
 {
     entry_cell(levels, h.level, h.pixel)
-}
-
-// The next kind where the expected level stands in a cell, and the next kind otherwise.
-fn peeked(h: Head, word: u32, here: Kind, other: Kind) -> Head
-    ensures { λ r. ⌜ r ≡ peeked h word here other ⌝ }
-{
-    if refers_to(word, h.level) {
-        to(here, h)
-    } else {
-        to(other, h)
-    }
 }
 
 // Node i is filled, and in hand for the next kind.
@@ -234,7 +150,7 @@ fn place_node(
     let n = h.held_node - 1;
     if refers_to(cell_at(x, nodes, levels), h.level) {
         set_cell(x, node_ref(n), nodes, levels);
-        answered(0, Answer::New(n), s, ended(1, n, 0, h))
+        answered(0, Answer::New(n), s, ended(1, n, 0, h), 0)
     } else {
         going(s, to(failed, h))
     }
@@ -245,7 +161,7 @@ fn met_node(s: Settings, h: Head, c: u32, i: u32, nodes: &[u32], levels: &[u32])
     ensures { λ r. ⌜ turned r (memory (now (nodes .entry)) (now (levels .entry))) ≡ tried 0 (metNode s h c i (memory (now (nodes .entry)) (now (levels .entry)))) ⌝ }
 {
     if eq(pixel_at(nodes, i), h.pixel) {
-        answered(0, Answer::Found(i), s, ended(2, i, h.held_node, h))
+        answered(0, Answer::Found(i), s, ended(2, i, h.held_node, h), 0)
     } else {
         going(s, to_node(Kind::Tail, i, c, h))
     }
@@ -269,7 +185,37 @@ fn read_word(s: Settings, h: Head, word: u32, nodes: &[u32], levels: &[u32]) -> 
     met(s, h, 1, named(word), word, nodes, levels)
 }
 
-// Question 6 of four kinds.
+// Follow's word: at a level, Look at the one on the way to it whose previous is H.
+fn follow_word(s: Settings, h: Head, word: u32, nodes: &[u32], levels: &[u32]) -> Turned
+    requires { ⌜ s .limit ≤ 8 ⌝ }
+    ensures { λ r. ⌜ turned r (memory (now (nodes .entry)) (now (levels .entry))) ≡ tried 0 (followWord 3 s h word (memory (now (nodes .entry)) (now (levels .entry)))) ⌝ }
+{
+    let g = child_of(levels, h.level, named(word));
+    met(s, h, more(s, h.count), g, word, nodes, levels)
+}
+
+// Level: a level is taken, and in hand for Close.
+fn new_level(s: Settings, h: Head, nodes: &[u32], levels: &mut [u32]) -> Turned
+    requires { ⌜ Sized s ⌝ }
+    requires { ⌜ h .«held_level» ≤ 28689 ⌝ }
+    requires { ⌜ depthAt 3 (now levels) (h .level) ≤ 6 ⌝ }
+    ensures { λ r. ⌜ turned r (memory (now (nodes .entry)) (now (levels .exit))) ≡ tried 0 (takeLevel 3 Kind.Close s h [] (memory (now (nodes .entry)) (now (levels .entry)))) ⌝ }
+{
+    let t = take_level(Kind::Close, s, h, levels);
+    going(t.settings, t.head)
+}
+
+// Close: a Move begins where the level in hand is R's next now.
+fn close_chain(s: Settings, h: Head, nodes: &mut [u32], levels: &[u32]) -> Turned
+    requires { ⌜ 1 ≤ h .«held_level» ⌝ }
+    requires { ⌜ h .«held_level» ≤ 28689 ⌝ }
+    ensures { λ r. ⌜ turned r (memory (now (nodes .exit)) (now (levels .entry))) ≡ tried 0 (closed 3 Kind.Follow s h [] (memory (now (nodes .entry)) (now (levels .entry)))) ⌝ }
+{
+    let t = close_next(Kind::Follow, h, nodes);
+    answered(0, Answer::Open, s, t.head, t.child)
+}
+
+// Question 6 of the kinds that searching has alone.
 fn looks(s: Settings, h: Head, nodes: &[u32], levels: &[u32]) -> bool
     ensures { λ r. ⌜ r ≡ looks 3 s h (memory (now (nodes .entry)) (now (levels .entry))) ⌝ }
 {
@@ -296,6 +242,22 @@ fn reads(s: Settings, h: Head, nodes: &[u32], levels: &[u32]) -> bool
     and(picks_in(s, h.level, levels), compares_ref(s, word, nodes))
 }
 
+fn appends(s: Settings, h: Head) -> bool
+    ensures { λ r. ⌜ r ≡ appends s h ⌝ }
+{
+    and(stands_at(s, h), node_in_hand(s, h))
+}
+
+fn follows(s: Settings, h: Head, nodes: &[u32], levels: &[u32]) -> bool
+    ensures { λ r. ⌜ r ≡ follows 3 s h (memory (now (nodes .entry)) (now (levels .entry))) ⌝ }
+{
+    let word = next_at(nodes, h.node);
+    and(
+        stands_at(s, h),
+        and(compares_ref(s, word, nodes), goes_back(s, h, word, levels)),
+    )
+}
+
 impl Worker {
     // Take and TakeTail, with the kind that comes next.
     fn taking(self, k: Kind, s: Settings, nodes: &mut [u32], levels: &[u32]) -> Turned
@@ -307,7 +269,7 @@ impl Worker {
             if node_left(s, h) {
                 take_node(k, s, h, nodes, levels)
             } else {
-                answered(9, Answer::Full, s, ended(3, 0, h.held_node, h))
+                answered(9, Answer::Full, s, ended(3, 0, h.held_node, h), 0)
             }
         } else {
             refused_six(s, h)
@@ -359,6 +321,114 @@ impl Worker {
             read_word(s, h, word, nodes, levels)
         } else {
             refused_six(s, h)
+        }
+    }
+
+    // Tail: read R's next.
+    pub fn tail(self, s: Settings, nodes: &[u32], levels: &[u32]) -> Turned
+        ensures { λ r. ⌜ turned r (memory (now (nodes .entry)) (now (levels .entry))) ≡ unlessSix (tails s (self .head) (now (nodes .entry))) s (self .head) [] (memory (now (nodes .entry)) (now (levels .entry))) (tried 0 (tail 3 s (self .head) (memory (now (nodes .entry)) (now (levels .entry))))) ⌝ }
+    {
+        let h = self.head;
+        if tails(s, h, nodes) {
+            let k = by_count(s, h.count, Kind::TakeTail, Kind::Level, Kind::Follow);
+            going(s, peeked(h, next_at(nodes, h.node), k, Kind::Follow))
+        } else {
+            refused_six(s, h)
+        }
+    }
+
+    // TakeTail: as Take, for R's next.
+    pub fn take_tail(self, s: Settings, nodes: &mut [u32], levels: &[u32]) -> Turned
+        requires { ⌜ Sized s ⌝ }
+        ensures { λ r. ⌜ turned r (memory (now (nodes .exit)) (now (levels .entry))) ≡ unlessSix (takes s (self .head)) s (self .head) [] (memory (now (nodes .entry)) (now (levels .entry))) (unlessNine (nodeLeft s (self .head)) s (self .head) (memory (now (nodes .entry)) (now (levels .entry))) (takeTail s (self .head) (memory (now (nodes .entry)) (now (levels .entry))))) ⌝ }
+    {
+        self.taking(Kind::Append, s, nodes, levels)
+    }
+
+    // Append: exchange R's next from H to the node.
+    pub fn append(self, s: Settings, nodes: &mut [u32], levels: &mut [u32]) -> Turned
+        requires { ⌜ Sized s ⌝ }
+        ensures { λ r. ⌜ turned r (memory (now (nodes .exit)) (now (levels .exit))) ≡ unlessSix (appends s (self .head)) s (self .head) [] (memory (now (nodes .entry)) (now (levels .entry))) (tried 0 (append 3 s (self .head) (memory (now (nodes .entry)) (now (levels .entry))))) ⌝ }
+    {
+        let h = self.head;
+        if appends(s, h) {
+            place_node(Kind::Follow, s, h, Cell::Next(h.node), nodes, levels)
+        } else {
+            refused_six(s, h)
+        }
+    }
+
+    // Level: use the spare level, else the next number.
+    pub fn level(self, s: Settings, nodes: &[u32], levels: &mut [u32]) -> Turned
+        requires { ⌜ Sized s ⌝ }
+        ensures { λ r. ⌜ turned r (memory (now (nodes .entry)) (now (levels .exit))) ≡ unlessSix (takesLevel 3 s (self .head) (now (levels .entry))) s (self .head) [] (memory (now (nodes .entry)) (now (levels .entry))) (tried 0 (level 3 s (self .head) (memory (now (nodes .entry)) (now (levels .entry))))) ⌝ }
+    {
+        let h = self.head;
+        if takes_level(s, h, levels) {
+            new_level(s, h, nodes, levels)
+        } else {
+            refused_six(s, h)
+        }
+    }
+
+    // Close: exchange R's next from H to the level in hand.
+    pub fn close(self, s: Settings, nodes: &mut [u32], levels: &[u32]) -> Turned
+        requires { ⌜ Sized s ⌝ }
+        ensures { λ r. ⌜ turned r (memory (now (nodes .exit)) (now (levels .entry))) ≡ unlessSix (closes s (self .head)) s (self .head) [] (memory (now (nodes .entry)) (now (levels .entry))) (tried 0 (close 3 s (self .head) (memory (now (nodes .entry)) (now (levels .entry))))) ⌝ }
+    {
+        let h = self.head;
+        if closes(s, h) {
+            close_chain(s, h, nodes, levels)
+        } else {
+            refused_six(s, h)
+        }
+    }
+
+    // Follow: read R's next again.
+    pub fn follow(self, s: Settings, nodes: &[u32], levels: &[u32]) -> Turned
+        requires { ⌜ Sized s ⌝ }
+        ensures { λ r. ⌜ turned r (memory (now (nodes .entry)) (now (levels .entry))) ≡ unlessSix (follows 3 s (self .head) (memory (now (nodes .entry)) (now (levels .entry)))) s (self .head) [] (memory (now (nodes .entry)) (now (levels .entry))) (tried 0 (follow 3 s (self .head) (memory (now (nodes .entry)) (now (levels .entry))))) ⌝ }
+    {
+        let h = self.head;
+        if follows(s, h, nodes, levels) {
+            follow_word(s, h, next_at(nodes, h.node), nodes, levels)
+        } else {
+            refused_six(s, h)
+        }
+    }
+
+    // One turn of a search, by its kind. Another kind is none of a search.
+    pub fn turn(self, s: Settings, nodes: &mut [u32], levels: &mut [u32]) -> Turned
+        requires { ⌜ Sized s ⌝ }
+        ensures { λ r. ⌜ turned r (memory (now (nodes .exit)) (now (levels .exit))) ≡ searchTried (self .head .kind) 3 s (self .head) (memory (now (nodes .entry)) (now (levels .entry))) ⌝ }
+    {
+        let h = self.head;
+        let k = h.kind;
+        match k {
+            Kind::Idle => refused_six(s, h),
+            Kind::Look => self.look(s, nodes, levels),
+            Kind::Take => self.take(s, nodes, levels),
+            Kind::Put => self.put(s, nodes, levels),
+            Kind::Read => self.read(s, nodes, levels),
+            Kind::Tail => self.tail(s, nodes, levels),
+            Kind::TakeTail => self.take_tail(s, nodes, levels),
+            Kind::Append => self.append(s, nodes, levels),
+            Kind::Level => self.level(s, nodes, levels),
+            Kind::Close => self.close(s, nodes, levels),
+            Kind::Follow => self.follow(s, nodes, levels),
+            Kind::ChainHead => refused_six(s, h),
+            Kind::ChainNext => refused_six(s, h),
+            Kind::SetNext => refused_six(s, h),
+            Kind::SetLook => refused_six(s, h),
+            Kind::SetPut => refused_six(s, h),
+            Kind::SetRead => refused_six(s, h),
+            Kind::SetTail => refused_six(s, h),
+            Kind::SetAppend => refused_six(s, h),
+            Kind::SetLevel => refused_six(s, h),
+            Kind::SetClose => refused_six(s, h),
+            Kind::SetFollow => refused_six(s, h),
+            Kind::MoveEnd => refused_six(s, h),
+            Kind::Unknown => refused_six(s, h),
         }
     }
 }

@@ -25,11 +25,8 @@ put-requires c κs = search needs
 enum-known-x-2 : tie.Need-enum-known-x-2
 enum-known-x-2 c = search needs
 
-node-place-requires : tie.Need-node-place-requires
-node-place-requires c κs = search needs
-
-put-requires-2 : tie.Need-put-requires-2
-put-requires-2 c κs = search needs
+set-next-requires : tie.Need-set-next-requires
+set-next-requires c κs = search needs
 
 same-length : tie.Need-same-length
 same-length c = search needs
@@ -54,8 +51,7 @@ set-cell-spec =
     level-place-requires
     put-requires
     enum-known-x-2
-    node-place-requires
-    put-requires-2
+    set-next-requires
     same-length
     returns
     same-length-2

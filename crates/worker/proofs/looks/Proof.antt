@@ -1,6 +1,6 @@
 -- `worker::looks` meets its contract.
--- Relies on Asked.
-use Rattle.worker.proofs.Asked.{ask-cell}
+-- Relies on the laws of steps.
+use Rattle.steps.proofs.Asked.{ask-cell}
 use Rattle.rules.specs.Asked.{looks}
 use borrow.Author.Needs.{needs}
 use Rattle.worker.proofs.looks.Statement.{statement}

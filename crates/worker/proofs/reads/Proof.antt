@@ -1,6 +1,6 @@
 -- `worker::reads` meets its contract.
--- Relies on Asked.
-use Rattle.worker.proofs.Asked.{ask-compared}
+-- Relies on the laws of steps.
+use Rattle.steps.proofs.Asked.{ask-compared}
 use Rattle.rules.specs.Asked.{reads}
 use borrow.Author.Needs.{needs}
 use Rattle.worker.proofs.reads.Statement.{statement}

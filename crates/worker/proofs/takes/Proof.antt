@@ -1,6 +1,6 @@
 -- `worker::takes` meets its contract.
--- Relies on Asked.
-use Rattle.worker.proofs.Asked.{ask-both}
+-- Relies on the laws of steps.
+use Rattle.steps.proofs.Asked.{ask-both}
 use Rattle.rules.specs.Asked.{takes, spareNode}
 use borrow.Author.Needs.{needs}
 use Rattle.worker.proofs.takes.Statement.{statement}

@@ -1,7 +1,7 @@
 -- `worker::Worker::look` meets its contract.
 -- Relies on Turns.
 use Rattle.words.proofs.Choice.{via}
-use Rattle.worker.proofs.Turns.{six-no, six-yes, looked-at}
+use Rattle.worker.proofs.Turns.{six-no, six-yes, looked-at, cell-word}
 use Rattle.rules.specs.Searching.{look}
 use borrow.Author.Needs.{needs}
 use Rattle.worker.proofs.Worker.look.Statement.{statement}
@@ -27,7 +27,7 @@ refused-six-requires c κs = search needs
 
 returns : tie.Need-returns
 unfolding look
-returns c = search (needs, via, six-yes, looked-at)
+returns c = search (needs, via, six-yes, looked-at, cell-word)
 
 returns-2 : tie.Need-returns-2
 returns-2 c = search (needs, via, six-no)

@@ -1,7 +1,7 @@
 -- `worker::Worker::put` meets its contract.
--- Relies on Asked for bounds, on Turns for the ways through it.
+-- Relies on the laws of steps for bounds, on Turns for the ways through it.
 use Rattle.words.proofs.Choice.{via}
-use Rattle.worker.proofs.Asked.{in-hand-one, in-hand-most}
+use Rattle.steps.proofs.Asked.{in-hand-one, in-hand-most}
 use Rattle.rules.specs.Asked.{puts}
 use Rattle.worker.proofs.Turns.{six-no, six-yes, placed-at}
 use Rattle.rules.specs.Searching.{put}

@@ -1,7 +1,7 @@
 -- `worker::Worker::read` meets its contract.
 -- Relies on Turns.
 use Rattle.words.proofs.Choice.{via}
-use Rattle.worker.proofs.Turns.{six-no, six-yes, read-at}
+use Rattle.worker.proofs.Turns.{six-no, six-yes, read-at, cell-word}
 use Rattle.rules.specs.Searching.{read}
 use borrow.Author.Needs.{needs}
 use Rattle.worker.proofs.Worker.read.Statement.{statement}
@@ -24,7 +24,7 @@ refused-six-requires c κs = search needs
 
 returns : tie.Need-returns
 unfolding read
-returns c = search (needs, via, six-yes, read-at)
+returns c = search (needs, via, six-yes, read-at, cell-word)
 
 returns-2 : tie.Need-returns-2
 returns-2 c = search (needs, via, six-no)

@@ -1,0 +1,333 @@
+/* The same table written by hand in C, with the same refusals and the same record, for comparing speed. Its functions have the prefix HAND. */
+#include "../include/leafdrum.h"
+#include <string.h>
+
+#ifndef HAND
+#define HAND(name) by_hand_##name
+#endif
+
+enum { MAXPIX = 16777215 };
+enum kind { IDLE, LOOK, TAKE, PUT, READ, TAIL, TAKETAIL, APPEND, LEVEL, CLOSE, FOLLOW, CHAINHEAD, CHAINNEXT, SETNEXT, SETLOOK, SETPUT, SETREAD, SETTAIL, SETAPPEND, SETLEVEL, SETCLOSE, SETFOLLOW, MOVEEND };
+enum { W_KIND, W_PIXEL, W_LEVEL, W_NODE, W_COUNT, W_HNODE, W_HLEVEL, W_ANSWER, W_ANODE, W_MOVES };
+
+typedef leafdrum_settings S;
+typedef leafdrum_reply R;
+
+static uint32_t levels_of(const S *s) { return 1 + 7 * (s->nodes / s->limit) + s->workers; }
+
+uint32_t HAND(level_count)(S s) {
+    if (s.workers - 1 > 15 || s.limit - 1 > 7 || s.nodes - 1 > 4095) return 0;
+    return levels_of(&s);
+}
+
+static uint32_t sizes(const S *s, size_t nl, size_t ll, size_t wl) {
+    if (s->workers - 1 > 15 || s->limit - 1 > 7 || s->nodes - 1 > 4095) return 1;
+    if (nl < 2 * (size_t)s->nodes || ll < 10 * (size_t)levels_of(s) || wl < 128 * (size_t)s->workers) return 2;
+    return 0;
+}
+
+static uint32_t counts(const S *s, size_t nl, size_t ll, size_t wl) {
+    uint32_t q = sizes(s, nl, ll, wl);
+    if (q) return q;
+    if (s->nodes_taken > s->nodes || s->levels_taken - 1 >= levels_of(s)) return 3;
+    return 0;
+}
+
+static R reply(uint32_t number, uint32_t answer, uint32_t node, S s) {
+    R r = {number, answer, node, 0, s};
+    return r;
+}
+
+static int fits(const S *s, const uint32_t *w) {
+    uint32_t k = w[W_KIND];
+    if (k == IDLE) return w[W_ANSWER] <= 3;
+    if (k > MOVEEND || w[W_PIXEL] > MAXPIX) return 0;
+    if (((k >= TAIL && k <= FOLLOW) || (k >= SETTAIL && k <= SETFOLLOW)) && w[W_COUNT] - 1 > s->limit) return 0;
+    if (k <= FOLLOW) return w[W_MOVES] == 0;
+    uint32_t m = w[W_MOVES];
+    if (m - 1 > 6) return 0;
+    for (uint32_t j = 0; j + 1 < m; j++)
+        if (w[18 + 11 * j] - 1 >= s->limit) return 0;
+    uint32_t c = w[18 + 11 * (m - 1)];
+    return k == CHAINHEAD || k == MOVEEND ? c == 0 : c - 1 < s->limit;
+}
+
+R HAND(open)(S s, LEAFDRUM_AREAS) {
+    uint32_t q = sizes(&s, node_words, level_words, worker_words);
+    (void)nodes;
+    if (q) return reply(q, 0, 0, s);
+    s.nodes_taken = 0;
+    s.levels_taken = 1;
+    levels[0] = UINT32_MAX;
+    memset(levels + 1, 0, 9 * sizeof *levels);
+    memset(workers, 0, 128 * (size_t)s.workers * sizeof *workers);
+    return reply(0, 0, 0, s);
+}
+
+R HAND(start)(S s, uint32_t i, uint32_t row, uint32_t column, LEAFDRUM_AREAS) {
+    uint32_t q = counts(&s, node_words, level_words, worker_words);
+    (void)nodes, (void)levels;
+    if (q) return reply(q, 0, 0, s);
+    if (i >= s.workers) return reply(4, 0, 0, s);
+    if (row > 4095 || column > 4095) return reply(5, 0, 0, s);
+    uint32_t *w = workers + 128 * i;
+    if (!fits(&s, w)) return reply(6, 0, 0, s);
+    if (w[W_KIND] != IDLE) return reply(7, 0, 0, s);
+    w[W_KIND] = LOOK;
+    w[W_PIXEL] = row * 4096 + column;
+    w[W_LEVEL] = 0;
+    w[W_MOVES] = 0;
+    return reply(0, 4, 0, s);
+}
+
+R HAND(last)(S s, uint32_t i, LEAFDRUM_AREAS) {
+    uint32_t q = counts(&s, node_words, level_words, worker_words);
+    (void)nodes, (void)levels;
+    if (q) return reply(q, 0, 0, s);
+    if (i >= s.workers) return reply(4, 0, 0, s);
+    uint32_t *w = workers + 128 * i;
+    if (!fits(&s, w)) return reply(6, 0, 0, s);
+    if (w[W_KIND] != IDLE) return reply(0, 4, 0, s);
+    return reply(0, w[W_ANSWER], w[W_ANSWER] == 1 || w[W_ANSWER] == 2 ? w[W_ANODE] : 0, s);
+}
+
+#define SIX return 6
+#define NEED(c) do { if (!(c)) SIX; } while (0)
+
+static inline int taken(const S *s, uint32_t r) { return r & 1 ? r >> 1 < s->nodes_taken : r >> 1 < s->levels_taken; }
+
+/* the word of pixel p's entry in level g */
+static inline uint32_t *entry(uint32_t *levels, uint32_t g, uint32_t p) { return levels + 10 * g + 2 + (p >> 3 * (7 - levels[10 * g + 1]) & 7); }
+
+static int back(const S *s, const uint32_t *levels, uint32_t t, uint32_t g, uint32_t *child) {
+    for (int n = 0; n < 7; n++) {
+        uint32_t p = levels[10 * t];
+        if (p == g) { *child = t; return 1; }
+        if (p >= s->levels_taken) return 0;
+        t = p;
+    }
+    return 0;
+}
+
+static inline uint32_t *mv(uint32_t *w) { return w + 16 + 11 * (w[W_MOVES] - 1); }
+static inline uint32_t last_node(const uint32_t *m) { return m[3 + m[2] - 1]; }
+
+static inline void set_last(uint32_t *w, const uint32_t *m) {
+    if (m[2] == 0) w[W_KIND] = MOVEEND;
+    else w[W_KIND] = SETNEXT, w[W_LEVEL] = m[1];
+}
+
+/* one turn of an open worker whose record fits: 0, 6 or 9 */
+static uint32_t act(S *s, uint32_t *w, uint32_t *nodes, uint32_t *levels, uint32_t *answer, uint32_t *node) {
+    uint32_t k = w[W_KIND], h = w[W_LEVEL], *x, word, n, g, *m;
+    *answer = 4;
+    *node = 0;
+    switch (k) {
+    case LOOK:
+        NEED(h < s->levels_taken && levels[10 * h + 1] <= 7);
+        word = *entry(levels, h, w[W_PIXEL]);
+        NEED(taken(s, word));
+        w[W_KIND] = word == 2 * h ? TAKE : READ;
+        return 0;
+    case TAKE:
+    case TAKETAIL:
+        NEED(h < s->levels_taken && w[W_HNODE] <= s->nodes_taken);
+        if (w[W_HNODE]) n = w[W_HNODE] - 1;
+        else if (s->nodes_taken < s->nodes) n = s->nodes_taken++;
+        else {
+            w[W_KIND] = IDLE, w[W_ANSWER] = 3, w[W_ANODE] = 0;
+            *answer = 3;
+            return 9;
+        }
+        nodes[2 * n] = w[W_PIXEL];
+        nodes[2 * n + 1] = 2 * h;
+        w[W_HNODE] = n + 1;
+        w[W_KIND] = k == TAKE ? PUT : APPEND;
+        return 0;
+    case PUT:
+        NEED(h < s->levels_taken && levels[10 * h + 1] <= 7 && w[W_HNODE] - 1 < s->nodes_taken);
+        x = entry(levels, h, w[W_PIXEL]);
+        goto place;
+    case APPEND:
+        NEED(h < s->levels_taken && w[W_NODE] < s->nodes_taken && w[W_HNODE] - 1 < s->nodes_taken);
+        x = nodes + 2 * w[W_NODE] + 1;
+    place:
+        n = w[W_HNODE] - 1;
+        if (*x == 2 * h) {
+            *x = 2 * n + 1;
+            w[W_KIND] = IDLE, w[W_ANSWER] = 1, w[W_ANODE] = n, w[W_HNODE] = 0;
+            *answer = 1, *node = n;
+        } else w[W_KIND] = k == PUT ? READ : FOLLOW;
+        return 0;
+    case READ:
+        NEED(h < s->levels_taken && levels[10 * h + 1] <= 7);
+        word = *entry(levels, h, w[W_PIXEL]);
+        goto met;
+    case FOLLOW:
+        NEED(h < s->levels_taken && w[W_NODE] < s->nodes_taken);
+        word = nodes[2 * w[W_NODE] + 1];
+    met:
+        NEED(taken(s, word));
+        if (word & 1) {
+            n = word >> 1;
+            NEED(nodes[2 * n] <= MAXPIX);
+            if (nodes[2 * n] == w[W_PIXEL]) {
+                w[W_KIND] = IDLE, w[W_ANSWER] = 2, w[W_ANODE] = n;
+                *answer = 2, *node = n;
+            } else {
+                w[W_NODE] = n, w[W_KIND] = TAIL;
+                w[W_COUNT] = k == READ ? 1 : w[W_COUNT] > s->limit ? s->limit + 1 : w[W_COUNT] + 1;
+            }
+        } else {
+            g = word >> 1;
+            if (k == FOLLOW) NEED(back(s, levels, g, h, &g));
+            w[W_LEVEL] = g, w[W_KIND] = LOOK;
+        }
+        return 0;
+    case TAIL:
+    case SETTAIL:
+        NEED(h < s->levels_taken && w[W_NODE] < s->nodes_taken);
+        word = nodes[2 * w[W_NODE] + 1];
+        NEED(taken(s, word));
+        if (word != 2 * h || w[W_COUNT] > s->limit) w[W_KIND] = k == TAIL ? FOLLOW : SETFOLLOW;
+        else if (w[W_COUNT] < s->limit) w[W_KIND] = k == TAIL ? TAKETAIL : SETAPPEND;
+        else w[W_KIND] = k == TAIL ? LEVEL : SETLEVEL;
+        return 0;
+    case LEVEL:
+    case SETLEVEL:
+        NEED(h < s->levels_taken && w[W_HLEVEL] <= s->levels_taken && levels[10 * h + 1] <= 6);
+        if (w[W_HLEVEL]) g = w[W_HLEVEL] - 1;
+        else {
+            NEED(s->levels_taken < levels_of(s));
+            g = s->levels_taken++;
+        }
+        levels[10 * g + 1] = levels[10 * h + 1] + 1;
+        levels[10 * g] = h;
+        for (int e = 2; e < 10; e++) levels[10 * g + e] = 2 * g;
+        w[W_HLEVEL] = g + 1;
+        w[W_KIND] = k == LEVEL ? CLOSE : SETCLOSE;
+        return 0;
+    case CLOSE:
+    case SETCLOSE:
+        NEED(h < s->levels_taken && w[W_NODE] < s->nodes_taken && w[W_HLEVEL] - 1 < s->levels_taken);
+        x = nodes + 2 * w[W_NODE] + 1;
+        if (*x == 2 * h) {
+            NEED(w[W_MOVES] < 7);
+            *x = 2 * (w[W_HLEVEL] - 1);
+            w[W_MOVES]++;
+            m = mv(w);
+            m[0] = h, m[1] = w[W_HLEVEL] - 1;
+            memset(m + 2, 0, 9 * sizeof *m);
+            w[W_HLEVEL] = 0, w[W_KIND] = CHAINHEAD;
+        } else w[W_KIND] = k == CLOSE ? FOLLOW : SETFOLLOW;
+        return 0;
+    case CHAINHEAD:
+    case MOVEEND:
+        m = mv(w);
+        word = w[W_PIXEL];
+        if (w[W_MOVES] > 1) {
+            n = last_node(m - 11);
+            NEED(n < s->nodes_taken && nodes[2 * n] <= MAXPIX);
+            word = nodes[2 * n];
+        }
+        NEED(m[0] < s->levels_taken && levels[10 * m[0] + 1] <= 7);
+        x = entry(levels, m[0], word);
+        if (k == MOVEEND) {
+            NEED(m[1] < s->levels_taken);
+            *x = 2 * m[1];
+            w[W_LEVEL] = m[1];
+            w[W_KIND] = --w[W_MOVES] ? SETNEXT : LOOK;
+            return 0;
+        }
+        word = *x;
+        goto chain;
+    case CHAINNEXT:
+        m = mv(w);
+        n = last_node(m);
+        NEED(n < s->nodes_taken);
+        word = nodes[2 * n + 1];
+    chain:
+        NEED(taken(s, word));
+        if (word & 1) {
+            NEED(m[2] < s->limit);
+            m[3 + m[2]++] = word >> 1;
+            w[W_KIND] = CHAINNEXT;
+        } else set_last(w, m);
+        return 0;
+    case SETNEXT:
+        n = last_node(mv(w));
+        NEED(n < s->nodes_taken && h < s->levels_taken);
+        nodes[2 * n + 1] = 2 * h;
+        w[W_KIND] = SETLOOK;
+        return 0;
+    case SETLOOK:
+    case SETREAD:
+    case SETPUT:
+        m = mv(w);
+        n = last_node(m);
+        NEED(n < s->nodes_taken && h < s->levels_taken && levels[10 * h + 1] <= 7 && nodes[2 * n] <= MAXPIX);
+        x = entry(levels, h, nodes[2 * n]);
+        if (k == SETPUT) goto set;
+        NEED(taken(s, *x));
+        if (k == SETLOOK) w[W_KIND] = *x == 2 * h ? SETPUT : SETREAD;
+        else if (*x & 1) w[W_KIND] = SETTAIL, w[W_NODE] = *x >> 1, w[W_COUNT] = 1;
+        else w[W_KIND] = SETNEXT, w[W_LEVEL] = *x >> 1;
+        return 0;
+    case SETAPPEND:
+        m = mv(w);
+        n = last_node(m);
+        NEED(n < s->nodes_taken && h < s->levels_taken && w[W_NODE] < s->nodes_taken);
+        x = nodes + 2 * w[W_NODE] + 1;
+    set:
+        if (*x == 2 * h) {
+            *x = 2 * n + 1;
+            m[2]--;
+            set_last(w, m);
+        } else w[W_KIND] = k == SETPUT ? SETREAD : SETFOLLOW;
+        return 0;
+    case SETFOLLOW:
+        NEED(h < s->levels_taken && w[W_NODE] < s->nodes_taken);
+        word = nodes[2 * w[W_NODE] + 1];
+        NEED(taken(s, word));
+        if (word & 1) {
+            w[W_KIND] = SETTAIL, w[W_NODE] = word >> 1;
+            w[W_COUNT] = w[W_COUNT] > s->limit ? s->limit + 1 : w[W_COUNT] + 1;
+        } else {
+            NEED(back(s, levels, word >> 1, h, &g));
+            w[W_LEVEL] = g, w[W_KIND] = SETNEXT;
+        }
+        return 0;
+    }
+    return 6;
+}
+
+R HAND(turn)(S s, uint32_t i, LEAFDRUM_AREAS) {
+    uint32_t q = counts(&s, node_words, level_words, worker_words), answer, node;
+    if (q) return reply(q, 0, 0, s);
+    if (i >= s.workers) return reply(4, 0, 0, s);
+    uint32_t *w = workers + 128 * i;
+    if (!fits(&s, w)) return reply(6, 0, 0, s);
+    if (w[W_KIND] == IDLE) return reply(8, 0, 0, s);
+    q = act(&s, w, nodes, levels, &answer, &node);
+    return q == 6 ? reply(6, 0, 0, s) : reply(q, answer, node, s);
+}
+
+R HAND(turns)(S s, const uint8_t *list, size_t count, uint32_t limit, LEAFDRUM_AREAS) {
+    uint32_t q = counts(&s, node_words, level_words, worker_words), answer, node, done = 0;
+    if (q) return reply(q, 0, 0, s);
+    for (size_t k = 0; k < count; k++)
+        if (list[k] >= s.workers) return reply(4, 0, 0, s);
+    for (size_t k = 0; k < count && done < limit; k++) {
+        uint32_t *w = workers + 128 * list[k];
+        q = fits(&s, w) ? w[W_KIND] == IDLE ? 8 : act(&s, w, nodes, levels, &answer, &node) : 6;
+        if (q == 6) {
+            R r = reply(6, 0, 0, s);
+            r.turns = done;
+            return r;
+        }
+        if (q != 8) done++;
+    }
+    R r = reply(0, 0, 0, s);
+    r.turns = done;
+    return r;
+}

@@ -1,0 +1,32 @@
+-- One law for every function of the interface, and the ways through the level count.
+-- Relies on the definitions of what the interface gives.
+use Prim.Native.Nat.{ℕ}
+use mathlib.Core.Path.{_≡_, refl, sym, ap, _∙_}
+use mathlib.Core.Bool.{true, false}
+use Rattle.words.specs.Choice.{pick}
+use Rattle.words.proofs.Choice.{pick-true, pick-false}
+use Rattle.settings.specs.Sizes.{question1, levelCount}
+use Rattle.settings.specs.declared.Settings.{Settings}
+use Rattle.areas.specs.Memory.{Areas}
+use Rattle.record.specs.declared.Reply.{Reply}
+use Rattle.record.specs.Kinds.{answerNo, answerNode}
+use Rattle.rules.specs.Operations.{Result, result}
+use Rattle.export.specs.declared.LeafdrumReply.{LeafdrumReply}
+use Rattle.export.specs.Shown.{numbersOf, shown, exported, countOrZero}
+
+pub export-steps : {x : LeafdrumReply} {r : Reply} {a : Areas} {y : Result} → x ≡ numbersOf r → result r a ≡ y → shown x a ≡ exported y
+unfolding exported
+export-steps a e = rw (← e, a) refl
+
+module _ (w : ℕ) (s : Settings) where
+  pub count-in : {n : ℕ} → n ≡ levelCount w s → question1 s ≡ true → n ≡ countOrZero w s
+  unfolding countOrZero
+  count-in e q = e ∙ sym (pick-true _ _ _ q)
+
+  pub count-out : question1 s ≡ false → _≡_ {A = ℕ} 0 (countOrZero w s)
+  unfolding countOrZero
+  count-out q = sym (pick-false _ _ _ q)
+
+pub numbers-steps : (r : Reply) {a n : ℕ} → a ≡ answerNo (r .answer) → n ≡ answerNode (r .answer) → _≡_ {A = LeafdrumReply} (record { number = r .number; answer = a; node = n; turns = r .turns; settings = r .settings }) (numbersOf r)
+unfolding numbersOf
+numbers-steps r a n = rw (a, n) refl

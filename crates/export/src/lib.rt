@@ -1,0 +1,138 @@
+// The C interface: the public operations with their answers as numbers. include/leafdrum.h declares it; nothing checks that header.
+// Relies on table and turns for the operations.
+ghost use mathlib.Core.Path.{_≡_};
+ghost use Rattle.areas.specs.Memory.{areas};
+ghost use Rattle.record.specs.Kinds.{answerNo, answerNode};
+ghost use Rattle.rules.specs.Operations.{opening, start, turn, lastAnswer};
+ghost use Rattle.rules.specs.Lists.{turns};
+ghost use Rattle.export.specs.Shown.{numbersOf, shown, exported, countOrZero};
+use record::Answer;
+use record::Reply;
+use settings::Settings;
+
+// leafdrum_reply: the number of the refusal or 0, the answer and its node, the turns done, the settings.
+#[repr(C)]
+pub struct LeafdrumReply {
+    pub number: u32,
+    pub answer: u32,
+    pub node: u32,
+    pub turns: u32,
+    pub settings: Settings,
+}
+
+fn answer_no(a: Answer) -> u32
+    ensures { λ r. ⌜ r ≡ answerNo a ⌝ }
+{
+    match a {
+        Answer::Nothing => 0,
+        Answer::New(_) => 1,
+        Answer::Found(_) => 2,
+        Answer::Full => 3,
+        Answer::Open => 4,
+    }
+}
+
+fn answer_node(a: Answer) -> u32
+    ensures { λ r. ⌜ r ≡ answerNode a ⌝ }
+{
+    match a {
+        Answer::Nothing => 0,
+        Answer::New(n) => n,
+        Answer::Found(n) => n,
+        Answer::Full => 0,
+        Answer::Open => 0,
+    }
+}
+
+fn numbers(r: Reply) -> LeafdrumReply
+    ensures { λ x. ⌜ x ≡ numbersOf r ⌝ }
+{
+    let a = r.answer;
+    let s = r.settings;
+    LeafdrumReply {
+        number: r.number,
+        answer: answer_no(a),
+        node: answer_node(a),
+        turns: r.turns,
+        settings: s,
+    }
+}
+
+#[no_mangle]
+pub extern "C" fn leafdrum_open(
+    settings: Settings,
+    nodes: &mut [u32],
+    levels: &mut [u32],
+    workers: &mut [u32],
+) -> LeafdrumReply
+    ensures { λ r. ⌜ shown r (areas (now (nodes .exit)) (now (levels .exit)) (now (workers .exit))) ≡ exported (opening 3 settings (areas (now (nodes .entry)) (now (levels .entry)) (now (workers .entry)))) ⌝ }
+{
+    numbers(table::open(settings, nodes, levels, workers))
+}
+
+#[no_mangle]
+pub extern "C" fn leafdrum_start(
+    settings: Settings,
+    worker: u32,
+    row: u32,
+    column: u32,
+    nodes: &mut [u32],
+    levels: &mut [u32],
+    workers: &mut [u32],
+) -> LeafdrumReply
+    ensures { λ r. ⌜ shown r (areas (now (nodes .exit)) (now (levels .exit)) (now (workers .exit))) ≡ exported (start 3 settings worker row column (areas (now (nodes .entry)) (now (levels .entry)) (now (workers .entry)))) ⌝ }
+{
+    numbers(table::start(settings, worker, row, column, nodes, levels, workers))
+}
+
+#[no_mangle]
+pub extern "C" fn leafdrum_turn(
+    settings: Settings,
+    worker: u32,
+    nodes: &mut [u32],
+    levels: &mut [u32],
+    workers: &mut [u32],
+) -> LeafdrumReply
+    ensures { λ r. ⌜ shown r (areas (now (nodes .exit)) (now (levels .exit)) (now (workers .exit))) ≡ exported (turn 3 settings worker (areas (now (nodes .entry)) (now (levels .entry)) (now (workers .entry)))) ⌝ }
+{
+    numbers(turns::turn(settings, worker, nodes, levels, workers))
+}
+
+#[no_mangle]
+pub extern "C" fn leafdrum_turns(
+    settings: Settings,
+    list: &[u8],
+    limit: u32,
+    nodes: &mut [u32],
+    levels: &mut [u32],
+    workers: &mut [u32],
+) -> LeafdrumReply
+    ensures { λ r. ⌜ shown r (areas (now (nodes .exit)) (now (levels .exit)) (now (workers .exit))) ≡ exported (turns 3 settings (now (list .entry)) limit (areas (now (nodes .entry)) (now (levels .entry)) (now (workers .entry)))) ⌝ }
+{
+    numbers(turns::turns(settings, list, limit, nodes, levels, workers))
+}
+
+#[no_mangle]
+pub extern "C" fn leafdrum_last(
+    settings: Settings,
+    worker: u32,
+    nodes: &mut [u32],
+    levels: &mut [u32],
+    workers: &mut [u32],
+) -> LeafdrumReply
+    ensures { λ r. ⌜ shown r (areas (now (nodes .exit)) (now (levels .exit)) (now (workers .exit))) ≡ exported (lastAnswer 3 settings worker (areas (now (nodes .entry)) (now (levels .entry)) (now (workers .entry)))) ⌝ }
+{
+    numbers(table::last_answer(settings, worker, nodes, levels, workers))
+}
+
+// The number of levels that the level area holds; 0 for settings out of range.
+#[no_mangle]
+pub extern "C" fn leafdrum_level_count(settings: Settings) -> u32
+    ensures { λ r. ⌜ r ≡ countOrZero 3 settings ⌝ }
+{
+    if settings.in_range() {
+        settings.level_count()
+    } else {
+        0
+    }
+}

@@ -1,0 +1,58 @@
+-- `mover::Mover::chain_head` meets its contract.
+-- Relies on Asked, on Turns.
+use Rattle.mover.proofs.Asked.{heads-asked}
+use Rattle.mover.proofs.Turns.{counts-refused, counts-stay, home-word, six-no, six-yes, word-is}
+use Rattle.rules.specs.Moving.{chainHead}
+use borrow.Author.Needs.{needs}
+use Rattle.mover.proofs.Mover.chain_head.Statement.{statement}
+use Rattle.mover.proofs.Mover.chain_head.Tie as tie
+
+home-cell-requires : tie.Need-home-cell-requires
+home-cell-requires c κs = search needs
+
+cell-at-requires : tie.Need-cell-at-requires
+cell-at-requires c κs = search needs
+
+chain-heads-requires : tie.Need-chain-heads-requires
+chain-heads-requires c κs = search needs
+
+chain-word-requires : tie.Need-chain-word-requires
+chain-word-requires c κs = search needs
+
+refused-requires : tie.Need-refused-requires
+refused-requires c κs = search needs
+
+same-length : tie.Need-same-length
+same-length c = search needs
+
+same-length-2 : tie.Need-same-length-2
+same-length-2 c = search needs
+
+returns : tie.Need-returns
+unfolding chainHead
+returns c = record { gives = λ os a. search (needs, six-yes, heads-asked, word-is, home-word); counts = search (needs, counts-stay) }
+
+same-length-3 : tie.Need-same-length-3
+same-length-3 c = search needs
+
+same-length-4 : tie.Need-same-length-4
+same-length-4 c = search needs
+
+returns-2 : tie.Need-returns-2
+returns-2 c = record { gives = λ os a. search (needs, six-no, heads-asked); counts = search (needs, counts-refused) }
+
+pub chain-head-spec : {M : Type 1} → statement M
+chain-head-spec =
+    tie.close
+    (tie.spec
+    home-cell-requires
+    cell-at-requires
+    chain-heads-requires
+    chain-word-requires
+    refused-requires
+    same-length
+    same-length-2
+    returns
+    same-length-3
+    same-length-4
+    returns-2)

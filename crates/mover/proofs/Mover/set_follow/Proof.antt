@@ -1,0 +1,58 @@
+-- `mover::Mover::set_follow` meets its contract.
+-- Relies on Turns.
+use Rattle.mover.proofs.Turns.{counts-refused, counts-stay, follow-is, six-no, six-yes}
+use Rattle.rules.specs.Moving.{setFollow}
+use Rattle.words.proofs.Choice.{via}
+use borrow.Author.Needs.{needs}
+use Rattle.mover.proofs.Mover.set_follow.Statement.{statement}
+use Rattle.mover.proofs.Mover.set_follow.Tie as tie
+
+set-follows-requires : tie.Need-set-follows-requires
+set-follows-requires c κs = search needs
+
+next-at-requires : tie.Need-next-at-requires
+next-at-requires c κs = search needs
+
+follow-head-requires : tie.Need-follow-head-requires
+follow-head-requires c κs = search needs
+
+stay-requires : tie.Need-stay-requires
+stay-requires c κs = search needs
+
+refused-requires : tie.Need-refused-requires
+refused-requires c κs = search needs
+
+same-length : tie.Need-same-length
+same-length c = search needs
+
+same-length-2 : tie.Need-same-length-2
+same-length-2 c = search needs
+
+returns : tie.Need-returns
+unfolding setFollow
+returns c = record { gives = λ os a. search (needs, via, six-yes, follow-is); counts = search (needs, counts-stay) }
+
+same-length-3 : tie.Need-same-length-3
+same-length-3 c = search needs
+
+same-length-4 : tie.Need-same-length-4
+same-length-4 c = search needs
+
+returns-2 : tie.Need-returns-2
+returns-2 c = record { gives = λ os a. search (needs, via, six-no); counts = search (needs, counts-refused) }
+
+pub set-follow-spec : {M : Type 1} → statement M
+set-follow-spec =
+    tie.close
+    (tie.spec
+    set-follows-requires
+    next-at-requires
+    follow-head-requires
+    stay-requires
+    refused-requires
+    same-length
+    same-length-2
+    returns
+    same-length-3
+    same-length-4
+    returns-2)

@@ -1,0 +1,34 @@
+-- `mover::set_puts` meets its contract.
+-- Relies on Asked.
+use Rattle.mover.proofs.Asked.{fits-last}
+use Rattle.rules.specs.Asked.{setPuts}
+use Rattle.steps.proofs.Asked.{ask-both}
+use borrow.Author.Needs.{needs}
+use Rattle.mover.proofs.set_puts.Statement.{statement}
+use Rattle.mover.proofs.set_puts.Tie as tie
+
+picks-in-requires : tie.Need-picks-in-requires
+picks-in-requires c κs = search needs
+
+last-node-requires : tie.Need-last-node-requires
+last-node-requires c κs = search needs
+
+pixel-fits-requires : tie.Need-pixel-fits-requires
+pixel-fits-requires c κs = search needs
+
+and-requires : tie.Need-and-requires
+and-requires c κs = search needs
+
+returns : tie.Need-returns
+unfolding setPuts
+returns c = search (needs, ask-both, fits-last)
+
+pub set-puts-spec : {M : Type 1} → statement M
+set-puts-spec =
+    tie.close
+    (tie.spec
+    picks-in-requires
+    last-node-requires
+    pixel-fits-requires
+    and-requires
+    returns)

@@ -1,0 +1,29 @@
+-- `steps::level_in_hand` meets its contract.
+-- Relies on Asked.
+use Rattle.steps.proofs.Asked.{ask-both}
+use Rattle.rules.specs.Asked.{levelInHand}
+use borrow.Author.Needs.{needs}
+use Rattle.steps.proofs.level_in_hand.Statement.{statement}
+use Rattle.steps.proofs.level_in_hand.Tie as tie
+
+le-requires : tie.Need-le-requires
+le-requires c κs = search needs
+
+le-requires-2 : tie.Need-le-requires-2
+le-requires-2 c κs = search needs
+
+and-requires : tie.Need-and-requires
+and-requires c κs = search needs
+
+returns : tie.Need-returns
+unfolding levelInHand
+returns c = search (needs, ask-both)
+
+pub level-in-hand-spec : {M : Type 1} → statement M
+level-in-hand-spec =
+    tie.close
+    (tie.spec
+    le-requires
+    le-requires-2
+    and-requires
+    returns)

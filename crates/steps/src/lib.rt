@@ -1,0 +1,330 @@
+// What searching and moving do alike: changes of a head, the parts of question 6, going back, taking and closing with a level.
+// Relies on areas for cells, on record for the head, on rules for the definitions.
+ghost use mathlib.Core.Path.{_≡_};
+ghost use Prim.Native.Nat.{_+_, _-_, _≤_};
+ghost use Rattle.words.specs.Digits.{depths};
+ghost use Rattle.settings.specs.Sizes.{Sized};
+ghost use Rattle.areas.specs.Memory.{memory, depthAt};
+ghost use Rattle.rules.specs.Heads.{to, toLevel, toNode, holdingNode, holdingLevel, ended};
+ghost use Rattle.rules.specs.Steps.{peeked, byCount, more, tookNode, tookLevel, childOf, backMeets};
+ghost use Rattle.rules.specs.Asked.{nodeInHand, levelInHand, picksIn, pixelFits, readsRef, comparesRef, goesBack, levelLeft, standsAt, tails, takesLevel, closes};
+ghost use Rattle.steps.specs.Cut.{levelCut, takeLevelCut, withLevelCut, closeCut, closedCut};
+use areas::Cell;
+use areas::cell_at;
+use areas::depth_at;
+use areas::fill_level;
+use areas::is_node;
+use areas::level_ref;
+use areas::level_taken;
+use areas::named;
+use areas::next_at;
+use areas::node_taken;
+use areas::pixel_at;
+use areas::previous_at;
+use areas::ref_taken;
+use areas::refers_to;
+use areas::set_next;
+use record::Head;
+use record::Kind;
+use settings::Settings;
+use words::and;
+use words::le;
+use words::lt;
+
+// What Level and SetLevel leave: settings and head.
+pub struct Leveled {
+    pub settings: Settings,
+    pub head: Head,
+}
+
+// What Close and SetClose leave: the head, and the number + 1 of the level that a Move has begun to, or 0.
+pub struct Closed {
+    pub head: Head,
+    pub child: u32,
+}
+
+pub fn to(k: Kind, h: Head) -> Head
+    ensures { λ r. ⌜ r ≡ to k h ⌝ }
+{
+    Head {
+        kind: k,
+        pixel: h.pixel,
+        level: h.level,
+        node: h.node,
+        count: h.count,
+        held_node: h.held_node,
+        held_level: h.held_level,
+        answer: h.answer,
+        answer_node: h.answer_node,
+    }
+}
+
+pub fn to_level(k: Kind, g: u32, h: Head) -> Head
+    ensures { λ r. ⌜ r ≡ toLevel k g h ⌝ }
+{
+    let mut n = to(k, h);
+    n.level = g;
+    n
+}
+
+pub fn to_node(k: Kind, i: u32, c: u32, h: Head) -> Head
+    ensures { λ r. ⌜ r ≡ toNode k i c h ⌝ }
+{
+    let mut n = to(k, h);
+    n.node = i;
+    n.count = c;
+    n
+}
+
+pub fn holding_node(k: Kind, i: u32, h: Head) -> Head
+    ensures { λ r. ⌜ r ≡ holdingNode k i h ⌝ }
+{
+    let mut n = to(k, h);
+    n.held_node = i;
+    n
+}
+
+pub fn ended(a: u32, i: u32, spare: u32, h: Head) -> Head
+    ensures { λ r. ⌜ r ≡ ended a i spare h ⌝ }
+{
+    let mut n = to(Kind::Idle, h);
+    n.held_node = spare;
+    n.answer = a;
+    n.answer_node = i;
+    n
+}
+
+pub fn took_node(s: Settings) -> Settings
+    requires { ⌜ Sized s ⌝ }
+    ensures { λ r. ⌜ r ≡ tookNode s ⌝ }
+{
+    let mut t = s;
+    t.nodes_taken = s.nodes_taken + 1;
+    t
+}
+
+// Question 6, in the parts that the kinds share.
+pub fn node_in_hand(s: Settings, h: Head) -> bool
+    ensures { λ r. ⌜ r ≡ nodeInHand s h ⌝ }
+{
+    and(le(1, h.held_node), le(h.held_node, s.nodes_taken))
+}
+
+pub fn picks_in(s: Settings, g: u32, levels: &[u32]) -> bool
+    ensures { λ r. ⌜ r ≡ picksIn 3 s g (now (levels .entry)) ⌝ }
+{
+    and(level_taken(s, g), le(depth_at(levels, g), 7))
+}
+
+pub fn pixel_fits(s: Settings, i: u32, nodes: &[u32]) -> bool
+    ensures { λ r. ⌜ r ≡ pixelFits s i (now (nodes .entry)) ⌝ }
+{
+    and(node_taken(s, i), le(pixel_at(nodes, i), 16777215))
+}
+
+pub fn compares_ref(s: Settings, word: u32, nodes: &[u32]) -> bool
+    ensures { λ r. ⌜ r ≡ comparesRef s word (now (nodes .entry)) ⌝ }
+{
+    if is_node(word) {
+        pixel_fits(s, named(word), nodes)
+    } else {
+        level_taken(s, named(word))
+    }
+}
+
+pub fn reads_ref(s: Settings, x: Cell, nodes: &[u32], levels: &[u32]) -> bool
+    ensures { λ r. ⌜ r ≡ readsRef 3 s x (memory (now (nodes .entry)) (now (levels .entry))) ⌝ }
+{
+    ref_taken(s, cell_at(x, nodes, levels))
+}
+
+// The next kind where the expected level stands in a cell, and the next kind otherwise.
+pub fn peeked(h: Head, word: u32, here: Kind, other: Kind) -> Head
+    ensures { λ r. ⌜ r ≡ peeked h word here other ⌝ }
+{
+    if refers_to(word, h.level) {
+        to(here, h)
+    } else {
+        to(other, h)
+    }
+}
+
+pub fn holding_level(k: Kind, g: u32, h: Head) -> Head
+    ensures { λ r. ⌜ r ≡ holdingLevel k g h ⌝ }
+{
+    let mut n = to(k, h);
+    n.held_level = g;
+    n
+}
+
+pub fn took_level(s: Settings) -> Settings
+    requires { ⌜ Sized s ⌝ }
+    ensures { λ r. ⌜ r ≡ tookLevel s ⌝ }
+{
+    let mut t = s;
+    t.levels_taken = s.levels_taken + 1;
+    t
+}
+
+// The next kind by the count at a node: below the limit, at the limit, past it.
+pub fn by_count(s: Settings, c: u32, below: Kind, full: Kind, past: Kind) -> Kind
+    ensures { λ r. ⌜ r ≡ byCount s c below full past ⌝ }
+{
+    if c < s.limit {
+        below
+    } else {
+        if c == s.limit { full } else { past }
+    }
+}
+
+// The count at the next node. Past the limit it stays at limit + 1.
+pub fn more(s: Settings, c: u32) -> u32
+    requires { ⌜ s .limit ≤ 8 ⌝ }
+    ensures { λ r. ⌜ r ≡ more s c ⌝ }
+{
+    if c <= s.limit { c + 1 } else { s.limit + 1 }
+}
+
+// Going back by previous words from level t to the one whose previous is g; at most 7 words are read.
+pub fn child_of(levels: &[u32], g: u32, t: u32) -> u32
+    ensures { λ r. ⌜ r ≡ childOf 3 (now (levels .entry)) (depths 3 - 1) g t ⌝ }
+{
+    let mut at = t;
+    let mut n = Settings::DEPTHS - 1;
+    while n > 0 {
+        let p = previous_at(levels, at);
+        if p == g {
+            return at;
+        }
+        at = p;
+        n -= 1;
+    }
+    at
+}
+
+// Whether that level is met, each previous word on the way naming a taken level.
+pub fn back_meets(s: Settings, levels: &[u32], g: u32, t: u32) -> bool
+    ensures { λ r. ⌜ r ≡ backMeets 3 s (now (levels .entry)) (depths 3 - 1) g t ⌝ }
+{
+    let mut at = t;
+    let mut n = Settings::DEPTHS - 1;
+    while n > 0 {
+        let p = previous_at(levels, at);
+        if p == g {
+            return true;
+        }
+        if level_taken(s, p) {
+            at = p;
+            n -= 1;
+        } else {
+            return false;
+        }
+    }
+    false
+}
+
+pub fn level_in_hand(s: Settings, h: Head) -> bool
+    ensures { λ r. ⌜ r ≡ levelInHand s h ⌝ }
+{
+    and(le(1, h.held_level), le(h.held_level, s.levels_taken))
+}
+
+pub fn goes_back(s: Settings, h: Head, word: u32, levels: &[u32]) -> bool
+    ensures { λ r. ⌜ r ≡ goesBack 3 s h word (now (levels .entry)) ⌝ }
+{
+    if is_node(word) {
+        true
+    } else {
+        back_meets(s, levels, h.level, named(word))
+    }
+}
+
+pub fn stands_at(s: Settings, h: Head) -> bool
+    ensures { λ r. ⌜ r ≡ standsAt s h ⌝ }
+{
+    and(level_taken(s, h.level), node_taken(s, h.node))
+}
+
+pub fn tails(s: Settings, h: Head, nodes: &[u32]) -> bool
+    ensures { λ r. ⌜ r ≡ tails s h (now (nodes .entry)) ⌝ }
+{
+    and(stands_at(s, h), ref_taken(s, next_at(nodes, h.node)))
+}
+
+// A new level's depth is at most 7, and a level is held or left.
+pub fn level_left(s: Settings, h: Head, levels: &[u32]) -> bool
+    requires { ⌜ Sized s ⌝ }
+    ensures { λ r. ⌜ r ≡ levelLeft 3 s h (now (levels .entry)) ⌝ }
+{
+    let deep = le(depth_at(levels, h.level), 6);
+    if h.held_level == 0 {
+        and(deep, lt(s.levels_taken, s.level_count()))
+    } else {
+        and(deep, true)
+    }
+}
+
+pub fn takes_level(s: Settings, h: Head, levels: &[u32]) -> bool
+    requires { ⌜ Sized s ⌝ }
+    ensures { λ r. ⌜ r ≡ takesLevel 3 s h (now (levels .entry)) ⌝ }
+{
+    and(
+        level_taken(s, h.level),
+        and(le(h.held_level, s.levels_taken), level_left(s, h, levels)),
+    )
+}
+
+pub fn closes(s: Settings, h: Head) -> bool
+    ensures { λ r. ⌜ r ≡ closes s h ⌝ }
+{
+    and(stands_at(s, h), level_in_hand(s, h))
+}
+
+// Level g is filled, and in hand for the next kind.
+fn with_level(k: Kind, s: Settings, h: Head, g: u32, levels: &mut [u32]) -> Leveled
+    requires { ⌜ g ≤ 28689 ⌝ }
+    requires { ⌜ depthAt 3 (now levels) (h .level) ≤ 6 ⌝ }
+    ensures { λ r. ⌜ levelCut (r .settings) (r .head) (now (levels .exit)) ≡ withLevelCut 3 k s h g (now (levels .entry)) ⌝ }
+{
+    let d = depth_at(levels, h.level) + 1;
+    fill_level(levels, g, h.level, d);
+    Leveled {
+        settings: s,
+        head: holding_level(k, g + 1, h),
+    }
+}
+
+// The spare level is used, else the next number.
+pub fn take_level(k: Kind, s: Settings, h: Head, levels: &mut [u32]) -> Leveled
+    requires { ⌜ Sized s ⌝ }
+    requires { ⌜ h .«held_level» ≤ 28689 ⌝ }
+    requires { ⌜ depthAt 3 (now levels) (h .level) ≤ 6 ⌝ }
+    ensures { λ r. ⌜ levelCut (r .settings) (r .head) (now (levels .exit)) ≡ takeLevelCut 3 k s h (now (levels .entry)) ⌝ }
+{
+    if h.held_level == 0 {
+        with_level(k, took_level(s), h, s.levels_taken, levels)
+    } else {
+        with_level(k, s, h, h.held_level - 1, levels)
+    }
+}
+
+// R's next is exchanged from the worker's level to the level in hand.
+pub fn close_next(failed: Kind, h: Head, nodes: &mut [u32]) -> Closed
+    requires { ⌜ 1 ≤ h .«held_level» ⌝ }
+    requires { ⌜ h .«held_level» ≤ 28689 ⌝ }
+    ensures { λ r. ⌜ closeCut (r .head) (r .child) (now (nodes .exit)) ≡ closedCut failed h (now (nodes .entry)) ⌝ }
+{
+    if refers_to(next_at(nodes, h.node), h.level) {
+        let c = h.held_level;
+        set_next(nodes, h.node, level_ref(c - 1));
+        Closed {
+            head: holding_level(Kind::ChainHead, 0, h),
+            child: c,
+        }
+    } else {
+        Closed {
+            head: to(failed, h),
+            child: 0,
+        }
+    }
+}

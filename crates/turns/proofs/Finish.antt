@@ -1,0 +1,91 @@
+-- The ways in which a turn ends: refused by 6, or its record stored.
+-- Relies on the code's cut of a turn and on the laws of a record's store.
+use Prim.Native.Nat.{ℕ, suc, _-_, _≤_}
+use mathlib.Core.Path.{_≡_, refl, sym, ap, _∙_}
+use mathlib.Core.Logic.{_≢_}
+use mathlib.Core.Bool.{Bool, true, false}
+use mathlib.Core.List.{List, [], _∷_}
+use native.Mathlib.Omega.{arith}
+use lib.Dec.{eqb}
+use lib.ListN.{length}
+use borrow.Author.Tests.{eq-eqb, ne-eqb}
+use Rattle.words.specs.Choice.{pick}
+use Rattle.words.proofs.Choice.{pick-both, pick-true, pick-false}
+use Rattle.settings.specs.declared.Settings.{Settings}
+use Rattle.areas.specs.Memory.{Memory, memory, Areas, areas}
+use Rattle.record.specs.declared.Answer.{Answer}
+use Rattle.record.specs.declared.Answer.the-variants.{Nothing}
+use Rattle.record.specs.declared.Reply.{Reply}
+use Rattle.record.specs.declared.Head.{Head}
+use Rattle.record.specs.declared.Move.{Move}
+use Rattle.record.specs.Kinds.{kindNo}
+use Rattle.record.specs.Layout.{Record, record′, store, storeHead, storeMoves, moveTo, movePlace, newMove}
+use Rattle.record.proofs.Records.{store-none}
+use Rattle.rules.specs.Steps.{Step, step}
+use Rattle.rules.specs.Operations.{result, reply, refused}
+use Rattle.steps.specs.Cut.{begun}
+use Rattle.steps.specs.Tried.{Tried, tried, unlessSix, unlessNine}
+use Rattle.worker.specs.declared.Turned.{Turned}
+use Rattle.worker.specs.Tried.{turned}
+use Rattle.worker.specs.Searching.{searchTried}
+use Rattle.worker.proofs.ByKind.{search-tried}
+use Rattle.turns.specs.Cut.{triedOf, finished}
+
+-- a head and no Move
+pub keep-none : (w : ℕ) (h : Head) (i c : ℕ) (l : List ℕ) {l′ : List ℕ} → l′ ≡ storeHead w h 0 i l → c ≡ 0 → l′ ≡ store w (record′ h (begun (h .level) c [])) i l
+unfolding begun
+keep-none w h i c l e z = e ∙ sym (ap (λ ms. store w (record′ h ms) i l) (pick-true _ _ _ (eq-eqb c 0 z)) ∙ store-none w h i l)
+
+-- a head and the Move that has begun
+pub keep-begun : (w : ℕ) (h : Head) (i c : ℕ) (l : List ℕ) {l′ l″ : List ℕ} {v : Move} → l″ ≡ moveTo v (movePlace w i 0) l′ → v ≡ newMove (h .level) (c - 1) → l′ ≡ storeHead w h 1 i l → (c ≡ 0 → ⊥) → l″ ≡ store w (record′ h (begun (h .level) c [])) i l
+unfolding begun store storeMoves
+keep-begun w h i c l a b e z = rw (pick-false _ [] (newMove (h .level) (c - 1) ∷ []) (ne-eqb c 0 z), a, b, e) refl
+
+module _ (w : ℕ) (i : ℕ) (s : Settings) (nodes levels workers : List ℕ) (x : Tried) where
+  -- refused by 6: nothing has changed
+  pub finish-six :
+      (t : Step) {n : ℕ} {r : Reply} → r ≡ reply 6 Nothing 0 s → tried n t ≡ x → n ≡ 6 → (x .number ≡ 6 → x .step′ .memory ≡ memory nodes levels)
+      → result r (areas (t .memory .nodes) (t .memory .levels) workers) ≡ finished w x i s (areas nodes levels workers)
+  unfolding finished
+  finish-six t r e z k =
+      let q : x .number ≡ 6 = sym (ap (λ u. u .number) e) ∙ z in
+      let p : t .memory ≡ memory nodes levels = ap (λ u. u .step′ .memory) e ∙ k q in
+      rw (r, p, pick-true _ (refused 6 s (areas nodes levels workers)) _ (eq-eqb (x .number) 6 q)) refl
+
+  -- any other number: the record is stored
+  pub finish-done :
+      (t : Step) {n : ℕ} {r : Reply} {l : List ℕ} → r ≡ reply n (t .answer) 0 (t .settings) → l ≡ store w (t .record′) i workers → tried n t ≡ x → (n ≡ 6 → ⊥)
+      → result r (areas (t .memory .nodes) (t .memory .levels) l) ≡ finished w x i s (areas nodes levels workers)
+  unfolding finished
+  finish-done t {n} r f e z = rw (← e, pick-false _ (refused 6 s (areas nodes levels workers)) _ (ne-eqb n 6 z), r, f) refl
+
+-- a method that gives 6 has changed nothing
+not-six : (q : Bool) (s : Settings) (h : Head) (m : Memory) (t : Step) → unlessNine q s h m t .number ≢ 6
+unfolding unlessNine
+not-six q s h m t = pick-both (λ (u : Tried). u .number ≢ 6) q (λ e z. omega arith) (λ e z. omega arith)
+
+six-memory : (q : Bool) (s : Settings) (h : Head) (ms : List Move) (m : Memory) (t : Tried) → t .number ≢ 6 → unlessSix q s h ms m t .number ≡ 6 → unlessSix q s h ms m t .step′ .memory ≡ m
+unfolding unlessSix
+six-memory q s h ms m t n = pick-both (λ (u : Tried). u .number ≡ 6 → u .step′ .memory ≡ m) q (λ e z. absurd (n z)) (λ e z. refl)
+
+pub tried-memory : (w : ℕ) (s : Settings) (r : Record) (m : Memory) → triedOf w s r m .number ≡ 6 → triedOf w s r m .step′ .memory ≡ m
+unfolding triedOf
+tried-memory w s r m = six-memory _ s (r .head) (r .moves) m _ (not-six _ s (r .head) m _)
+
+module _ (w : ℕ) (i : ℕ) (s : Settings) (h : Head) (nodes levels workers : List ℕ) where
+  -- a searching method gives what the definitions say
+  search-is : (t : Turned) (m : Memory) → turned t m ≡ searchTried (h .kind) w s h (memory nodes levels) → 1 ≤ kindNo (h .kind) → kindNo (h .kind) ≤ 10 → turned t m ≡ triedOf w s (record′ h []) (memory nodes levels)
+  unfolding triedOf
+  search-is t m e low high = e ∙ search-tried w s h (memory nodes levels) low high
+
+  pub search-refused :
+      (t : Turned) {r : Reply} {n g : List ℕ} → r ≡ reply 6 Nothing 0 s → turned t (memory n g) ≡ searchTried (h .kind) w s h (memory nodes levels) → t .number ≡ 6 → 1 ≤ kindNo (h .kind) → kindNo (h .kind) ≤ 10
+      → result r (areas n g workers) ≡ finished w (triedOf w s (record′ h []) (memory nodes levels)) i s (areas nodes levels workers)
+  search-refused t {r} {n} {g} a e z low high =
+      finish-six w i s nodes levels workers (triedOf w s (record′ h []) (memory nodes levels)) (turned t (memory n g) .step′) a (search-is t (memory n g) e low high) z (tried-memory w s (record′ h []) (memory nodes levels))
+
+  pub search-done :
+      (t : Turned) {r : Reply} {n g l : List ℕ} → r ≡ reply (t .number) (t .answer) 0 (t .settings) → l ≡ store w (record′ (t .worker .head) (begun (t .worker .head .level) (t .child) [])) i workers → turned t (memory n g) ≡ searchTried (h .kind) w s h (memory nodes levels) → (t .number ≡ 6 → ⊥) → 1 ≤ kindNo (h .kind) → kindNo (h .kind) ≤ 10
+      → result r (areas n g l) ≡ finished w (triedOf w s (record′ h []) (memory nodes levels)) i s (areas nodes levels workers)
+  search-done t {r} {n} {g} {l} a f e z low high =
+      finish-done w i s nodes levels workers (triedOf w s (record′ h []) (memory nodes levels)) (turned t (memory n g) .step′) a f (search-is t (memory n g) e low high) z

@@ -1,0 +1,162 @@
+-- A turn of a moving worker: what a record that fits says of its Moves, and the ways in which the turn ends.
+-- Relies on mover for the turn, and on the ways in which a turn ends.
+use Prim.Native.Nat.{ℕ, zero, suc, _-_, _≤_}
+use mathlib.Core.Path.{_≡_, refl, sym, ap, _∙_}
+use mathlib.Core.Logic.{_≢_}
+use mathlib.Core.Bool.{Bool, true, false}
+use mathlib.Core.List.{List, [], _∷_}
+use native.Mathlib.Omega.{arith}
+use lib.Dec.{eqb, leb}
+use lib.ListN.{length}
+use borrow.Author.Tests.{ne-eqb, eqb-true, le-leb, lt-leb, leb-true}
+use Rattle.words.specs.Choice.{pick, both, every}
+use Rattle.words.specs.Digits.{depths}
+use Rattle.words.proofs.Choice.{pick-both, pick-true, pick-false, both-left, both-right, both-true}
+use Rattle.settings.specs.Sizes.{maxMoves, within, Sized}
+use Rattle.settings.specs.declared.Settings.{Settings}
+use Rattle.settings.proofs.Laws.{within-true}
+use Rattle.areas.specs.Memory.{Memory, memory, Areas, areas}
+use Rattle.record.specs.declared.Answer.the-variants.{Nothing}
+use Rattle.record.specs.declared.Reply.{Reply}
+use Rattle.record.specs.declared.Head.{Head}
+use Rattle.record.specs.declared.Kind.{Kind}
+use Rattle.record.specs.declared.Move.{Move}
+use Rattle.record.specs.Kinds.{kindNo}
+use Rattle.record.specs.Layout.{Record, record′, load, headAt, movesAt, moveAt, firstMoves, store}
+use Rattle.record.specs.Fits.{fits, fitsBy, callFits, movingFits, movesFit, innerFits}
+use Rattle.record.proofs.Pieces.{length-first}
+use Rattle.rules.specs.Acts.{actBy}
+use Rattle.rules.specs.Asked.{readsBy, takesNode, question9}
+use Rattle.rules.specs.Steps.{Step, step}
+use Rattle.rules.specs.Operations.{result, reply}
+use Rattle.steps.specs.Tried.{Tried, tried, unlessSix, unlessNine}
+use Rattle.mover.specs.declared.Mover.{Mover}
+use Rattle.mover.specs.declared.Moved.{Moved}
+use Rattle.mover.specs.Cut.{isMoving, moverAt, moverTo}
+use Rattle.mover.specs.Moved.{Gives, listAfter, moved}
+use Rattle.mover.proofs.Stored.{loaded-moves, loaded-around, store-is}
+use Rattle.turns.specs.Cut.{triedOf, finished}
+use Rattle.turns.proofs.Finish.{finish-six, finish-done, tried-memory}
+
+-- a choice that is true, where the other branch is false
+pick-yes : (b x : Bool) → pick b x false ≡ true → (b ≡ true) × (x ≡ true)
+unfolding pick
+pick-yes true x e = (refl, e)
+pick-yes false x e = let z : false ≡ true = e in (e, cc)
+
+false-true : false ≡ true → ⊥
+false-true q = let z : _≡_ {A = ℕ} 0 1 = cc in omega arith
+
+-- a record that fits with a kind from 11 on
+module _ (w : ℕ) (s : Settings) (l : List ℕ) (i : ℕ) (f : fits w s (load w l i) ≡ true) (low : 11 ≤ kindNo (headAt w l i .kind)) where
+  fits-moving : (kindNo (headAt w l i .kind) ≤ 22) × (movingFits w s (kindNo (headAt w l i .kind)) (firstMoves w l i (movesAt w l i)) ≡ true)
+  unfolding load fits fitsBy
+  fits-moving =
+      let e : pick (leb (kindNo (headAt w l i .kind)) 22) (both (callFits s (kindNo (headAt w l i .kind)) (headAt w l i)) (movingFits w s (kindNo (headAt w l i .kind)) (firstMoves w l i (movesAt w l i)))) false ≡ true =
+      sym (pick-false _ _ _ (ne-eqb (kindNo (headAt w l i .kind)) 0 (λ z. omega arith)) ∙ pick-false _ _ _ (lt-leb (kindNo (headAt w l i .kind)) 10 (omega arith))) ∙ f
+      in
+      let y = pick-yes _ _ e in
+      (leb-true _ _ (y .0), both-right _ _ (y .1))
+
+  kind-most : kindNo (headAt w l i .kind) ≤ 22
+  kind-most = fits-moving .0
+
+  fits-list : (leb (length (firstMoves w l i (movesAt w l i))) (maxMoves w) ≡ true) × (movesFit s (kindNo (headAt w l i .kind)) (firstMoves w l i (movesAt w l i)) ≡ true)
+  unfolding movingFits
+  fits-list = pick-yes _ _ (fits-moving .1)
+
+  moves-most : movesAt w l i ≤ maxMoves w
+  moves-most =
+      let a : length (firstMoves w l i (movesAt w l i)) ≤ maxMoves w = leb-true _ _ (fits-list .0) in
+      rw (length-first w l i (movesAt w l i)) at a
+
+  first-fits : (n : ℕ) → movesFit s (kindNo (headAt w l i .kind)) (firstMoves w l i n) ≡ true → (1 ≤ n) × (innerFits s (kindNo (headAt w l i .kind)) (moveAt w l i (n - 1) .count) ≡ true)
+  unfolding firstMoves movesFit
+  first-fits zero e = absurd (false-true e)
+  first-fits (suc n) e =
+      let z : suc n - 1 ≡ n = omega arith in
+      (omega arith, rw z (both-left _ _ e))
+
+  moves-least : 1 ≤ movesAt w l i
+  moves-least = first-fits (movesAt w l i) (fits-list .1) .0
+
+  inner-most : Sized s → moveAt w l i (movesAt w l i - 1) .count ≤ 8
+  unfolding innerFits
+  inner-most z =
+      pick-both (λ (b : Bool). b ≡ true → moveAt w l i (movesAt w l i - 1) .count ≤ 8) _
+      (λ t e. let q = within-true _ _ e in let a = z .ranges .limit .high in omega arith)
+      (λ t e. let q : moveAt w l i (movesAt w l i - 1) .count ≡ 0 = eqb-true _ _ e in omega arith)
+      (first-fits (movesAt w l i) (fits-list .1) .1)
+
+-- the bounds of a mover that is loaded
+module _ (s : Settings) (l : List ℕ) (i : ℕ) (h : Head) (v : Mover) where
+  pub loaded-count : v ≡ moverAt 3 l i h → h ≡ headAt 3 l i → Sized s → fits 3 s (load 3 l i) ≡ true → 11 ≤ kindNo (h .kind) → v .inner .count ≤ 8
+  unfolding moverAt
+  loaded-count a e z f k = rw a (inner-most 3 s l i f (rw e at k) z)
+
+  pub loaded-least : v ≡ moverAt 3 l i h → h ≡ headAt 3 l i → fits 3 s (load 3 l i) ≡ true → 11 ≤ kindNo (h .kind) → 1 ≤ v .moves
+  unfolding moverAt
+  loaded-least a e f k = rw a (moves-least 3 s l i f (rw e at k))
+
+  pub loaded-most : v ≡ moverAt 3 l i h → h ≡ headAt 3 l i → fits 3 s (load 3 l i) ≡ true → 11 ≤ kindNo (h .kind) → v .moves ≤ 7
+  unfolding moverAt maxMoves depths
+  loaded-most a e f k = rw a (moves-most 3 s l i f (rw e at k))
+
+-- the questions that a moving kind is asked
+nine-moving : (w : ℕ) (s : Settings) (k : Kind) (h : Head) (ms : List Move) (m : Memory) (t : Step) → h .kind ≡ k → 11 ≤ kindNo k → unlessNine (question9 s (record′ h ms)) s h m t ≡ tried 0 t
+unfolding unlessNine question9 takesNode
+nine-moving w s k h ms m t e low =
+    let p : 11 ≤ kindNo (h .kind) = rw e low in
+    pick-true _ _ _ (pick-false _ _ _ (pick-false _ _ _ (ne-eqb (kindNo (h .kind)) 2 (λ z. omega arith)) ∙ ne-eqb (kindNo (h .kind)) 6 (λ z. omega arith)))
+
+is-moving : (k : Kind) → 11 ≤ kindNo k → kindNo k ≤ 22 → isMoving k ≡ true
+unfolding isMoving
+is-moving k low high = both-true (le-leb _ _ low) (le-leb _ _ high)
+
+both-yes : (a b : Bool) → a ≡ true → both a b ≡ b
+unfolding both
+both-yes a b e = simp e
+
+-- what the turn of a loaded mover gives is what the definitions say
+module _ (w : ℕ) (s : Settings) (i : ℕ) (l : List ℕ) (m m′ : Memory) (r : Moved) where
+  abbrev Turned : Mover → Type 0
+  Turned v = Gives v s m r m′ (λ os. both (isMoving (v .head .kind)) (readsBy (v .head .kind) w s (v .head) (v .inner ∷ os) m)) (λ os. actBy (v .head .kind) w s (v .head) (v .inner ∷ os) m)
+
+  loaded-is : fits w s (load w l i) ≡ true → 11 ≤ kindNo (headAt w l i .kind) → Turned (moverAt w l i (headAt w l i)) → moved (moverAt w l i (headAt w l i)) r (firstMoves w l i (movesAt w l i - 1)) m′ ≡ triedOf w s (load w l i) m
+  unfolding triedOf load moverAt
+  loaded-is f low g =
+      let o : 1 ≤ movesAt w l i = moves-least w s l i f low in
+      let c : unlessSix (both (isMoving (headAt w l i .kind)) (readsBy (headAt w l i .kind) w s (headAt w l i) (firstMoves w l i (movesAt w l i)) m)) s (headAt w l i) (firstMoves w l i (movesAt w l i)) m (tried 0 (actBy (headAt w l i .kind) w s (headAt w l i) (firstMoves w l i (movesAt w l i)) m)) ≡ triedOf w s (load w l i) m =
+      rw (both-yes _ (readsBy (headAt w l i .kind) w s (headAt w l i) (firstMoves w l i (movesAt w l i)) m) (is-moving (headAt w l i .kind) low (kind-most w s l i f low)), nine-moving w s (headAt w l i .kind) (headAt w l i) (firstMoves w l i (movesAt w l i)) m (actBy (headAt w l i .kind) w s (headAt w l i) (firstMoves w l i (movesAt w l i)) m) refl low) refl
+      in
+      g .gives (firstMoves w l i (movesAt w l i - 1)) (loaded-around w l i (headAt w l i) o)
+      ∙ ap (λ (ms : List Move). unlessSix (both (isMoving (headAt w l i .kind)) (readsBy (headAt w l i .kind) w s (headAt w l i) ms m)) s (headAt w l i) ms m (tried 0 (actBy (headAt w l i .kind) w s (headAt w l i) ms m))) (loaded-moves w l i (headAt w l i) o)
+      ∙ c
+
+module _ (w : ℕ) (s : Settings) (i : ℕ) (h : Head) (nodes levels l : List ℕ) where
+  abbrev pub Given : Mover → Moved → Memory → Type 0
+  Given v r m′ =
+      Gives v s (memory nodes levels) r m′
+      (λ os. both (isMoving (v .head .kind)) (readsBy (v .head .kind) w s (v .head) (v .inner ∷ os) (memory nodes levels)))
+      (λ os. actBy (v .head .kind) w s (v .head) (v .inner ∷ os) (memory nodes levels))
+
+  given-is : (r : Moved) (m′ : Memory) (v : Mover) → Given v r m′ → v ≡ moverAt w l i h → h ≡ headAt w l i → Given (moverAt w l i (headAt w l i)) r m′
+  given-is r m′ v g a e = rw (← e, ← a) g
+
+  pub move-refused :
+      (v : Mover) (r : Moved) {x : Reply} {n g : List ℕ} → x ≡ reply 6 Nothing 0 s → Given v r (memory n g) → v ≡ moverAt w l i h → r .number ≡ 6 → h ≡ headAt w l i → fits w s (load w l i) ≡ true → 11 ≤ kindNo (h .kind)
+      → result x (areas n g l) ≡ finished w (triedOf w s (load w l i) (memory nodes levels)) i s (areas nodes levels l)
+  move-refused v r {x} {n} {g} a gives b z e f k =
+      let p : 11 ≤ kindNo (headAt w l i .kind) = rw e at k in
+      let q = loaded-is w s i l (memory nodes levels) (memory n g) r f p (given-is r (memory n g) v gives b e) in
+      finish-six w i s nodes levels l (triedOf w s (load w l i) (memory nodes levels)) (moved (moverAt w l i (headAt w l i)) r (firstMoves w l i (movesAt w l i - 1)) (memory n g) .step′) a q z (tried-memory w s (load w l i) (memory nodes levels))
+
+  pub move-done :
+      (v : Mover) (r : Moved) {x : Reply} {n g l′ : List ℕ} → x ≡ reply (r .number) (r .answer) 0 (r .settings) → l′ ≡ moverTo w (r .mover) i l → Given v r (memory n g) → v ≡ moverAt w l i h → (r .number ≡ 6 → ⊥) → h ≡ headAt w l i → fits w s (load w l i) ≡ true → 11 ≤ kindNo (h .kind)
+      → result x (areas n g l′) ≡ finished w (triedOf w s (load w l i) (memory nodes levels)) i s (areas nodes levels l)
+  move-done v r {x} {n} {g} {l′} a c gives b z e f k =
+      let p : 11 ≤ kindNo (headAt w l i .kind) = rw e at k in
+      let given : Given (moverAt w l i (headAt w l i)) r (memory n g) = given-is r (memory n g) v gives b e in
+      let q = loaded-is w s i l (memory nodes levels) (memory n g) r f p given in
+      finish-done w i s nodes levels l (triedOf w s (load w l i) (memory nodes levels)) (moved (moverAt w l i (headAt w l i)) r (firstMoves w l i (movesAt w l i - 1)) (memory n g) .step′) a
+      (c ∙ store-is w l i (r .mover) (headAt w l i) (moves-least w s l i f p) (given .counts)) q z

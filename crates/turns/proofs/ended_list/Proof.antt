@@ -1,0 +1,15 @@
+-- `turns::ended_list` meets its contract.
+-- Relies on the ways through a list of turns.
+use Rattle.turns.proofs.Ways.{ended-is}
+use borrow.Author.Needs.{needs}
+use Rattle.turns.proofs.ended_list.Statement.{statement}
+use Rattle.turns.proofs.ended_list.Tie as tie
+
+less-requires : tie.Need-less-requires
+less-requires c κs = search needs
+
+returns : tie.Need-returns
+returns c = search (needs, ended-is)
+
+pub ended-list-spec : {M : Type 1} → statement M
+ended-list-spec = tie.close (tie.spec less-requires returns)

@@ -1,0 +1,27 @@
+-- `worker::new_level` meets its contract.
+-- Relies on Steps.
+use Rattle.worker.proofs.Steps.{level-there}
+use borrow.Author.Needs.{needs}
+use Rattle.worker.proofs.new_level.Statement.{statement}
+use Rattle.worker.proofs.new_level.Tie as tie
+
+take-level-requires : tie.Need-take-level-requires
+take-level-requires c κs = search needs
+
+going-requires : tie.Need-going-requires
+going-requires c κs = search needs
+
+same-length : tie.Need-same-length
+same-length c = search needs
+
+returns : tie.Need-returns
+returns c = search (needs, level-there)
+
+pub new-level-spec : {M : Type 1} → statement M
+new-level-spec =
+    tie.close
+    (tie.spec
+    take-level-requires
+    going-requires
+    same-length
+    returns)

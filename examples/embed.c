@@ -1,0 +1,24 @@
+/* How a firmware embeds the table: lend three areas, open, start calls, give turns. Build: gcc examples/embed.c target/staticlib/libexport.a */
+#include "../include/leafdrum.h"
+#include <stdio.h>
+
+enum { WORKERS = 2, LIMIT = 4, NODES = 8, LEVELS = 1 + 7 * (NODES / LIMIT) + WORKERS };
+static uint32_t nodes[2 * NODES], levels[10 * LEVELS], workers[128 * WORKERS];
+#define AREAS nodes, sizeof nodes / 4, levels, sizeof levels / 4, workers, sizeof workers / 4
+
+int main(void) {
+    leafdrum_settings s = {WORKERS, LIMIT, NODES, 0, 0};
+    leafdrum_reply r = leafdrum_open(s, AREAS);
+    if (r.number != 0) return printf("opening refused by %u\n", r.number), 1;
+    /* two workers report the pixel at row 0, column 0; their turns interleave */
+    r = leafdrum_start(r.settings, 0, 0, 0, AREAS);
+    r = leafdrum_start(r.settings, 1, 0, 0, AREAS);
+    static const uint8_t order[] = {0, 1, 0, 1, 0, 1, 1};
+    for (size_t k = 0; k < sizeof order; k++) {
+        r = leafdrum_turn(r.settings, order[k], AREAS);
+        if (r.answer == LEAFDRUM_NEW) printf("worker %u: new, node %u\n", order[k], r.node);
+        if (r.answer == LEAFDRUM_FOUND) printf("worker %u: found, node %u\n", order[k], r.node);
+    }
+    printf("nodes taken %u, levels taken %u\n", r.settings.nodes_taken, r.settings.levels_taken);
+    return 0;
+}

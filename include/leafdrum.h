@@ -1,0 +1,47 @@
+/* The flagged-pixel table. Every function is total: any settings, any memory content. See README.md, "Embedding". */
+#ifndef LEAFDRUM_H
+#define LEAFDRUM_H
+#include <stddef.h>
+#include <stdint.h>
+
+#ifdef __cplusplus
+extern "C" {
+#endif
+
+/* Hand in the newest settings each time; every reply gives them back. */
+typedef struct {
+    uint32_t workers;      /* 1 to 16 */
+    uint32_t limit;        /* chain limit, 1 to 8 */
+    uint32_t nodes;        /* 1 to 4096 */
+    uint32_t nodes_taken;  /* set by leafdrum_open */
+    uint32_t levels_taken; /* set by leafdrum_open */
+} leafdrum_settings;
+
+/* answers */
+enum { LEAFDRUM_NONE = 0, LEAFDRUM_NEW = 1, LEAFDRUM_FOUND = 2, LEAFDRUM_FULL = 3, LEAFDRUM_OPEN = 4 };
+
+typedef struct {
+    uint32_t number; /* 0: carried out; else the number of the refusal, 1 to 9 */
+    uint32_t answer; /* one of the answers above; 0 for a refusal other than "full", an opening and a list */
+    uint32_t node;   /* the node of "new" and "found", else 0 */
+    uint32_t turns;  /* turns done by leafdrum_turns, else 0 */
+    leafdrum_settings settings;
+} leafdrum_reply;
+
+/* Three lent areas, each a pointer and its length in words. Words needed: nodes 2 * nodes, levels 10 * leafdrum_level_count(settings),
+   workers 128 * workers. Longer areas are accepted, their excess is not touched. */
+#define LEAFDRUM_AREAS uint32_t *nodes, size_t node_words, uint32_t *levels, size_t level_words, uint32_t *workers, size_t worker_words
+
+leafdrum_reply leafdrum_open(leafdrum_settings settings, LEAFDRUM_AREAS);
+leafdrum_reply leafdrum_start(leafdrum_settings settings, uint32_t worker, uint32_t row, uint32_t column, LEAFDRUM_AREAS);
+leafdrum_reply leafdrum_turn(leafdrum_settings settings, uint32_t worker, LEAFDRUM_AREAS);
+leafdrum_reply leafdrum_turns(leafdrum_settings settings, const uint8_t *list, size_t count, uint32_t limit, LEAFDRUM_AREAS);
+leafdrum_reply leafdrum_last(leafdrum_settings settings, uint32_t worker, LEAFDRUM_AREAS);
+
+/* The number of levels that the level area holds; 0 for settings out of range. */
+uint32_t leafdrum_level_count(leafdrum_settings settings);
+
+#ifdef __cplusplus
+}
+#endif
+#endif

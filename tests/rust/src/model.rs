@@ -1,0 +1,770 @@
+// A model of the table coded apart, from document 01 and docs/LAYOUT.md. Nodes and levels are records of any 32-bit values; a worker is a type of
+// its own, read from its words before an operation and written back after it. Nothing here is taken from the Rattle code.
+
+pub const NONE: u32 = u32::MAX;
+const MAX_PIXEL: u32 = (1 << 24) - 1;
+
+#[derive(Clone, Copy, Debug, PartialEq, Eq)]
+pub struct Settings {
+    pub workers: u32,
+    pub limit: u32,
+    pub nodes: u32,
+    pub nodes_taken: u32,
+    pub levels_taken: u32,
+}
+
+#[derive(Clone, Copy, Debug, PartialEq, Eq)]
+pub struct Reply {
+    pub number: u32,
+    pub answer: u32,
+    pub node: u32,
+    pub turns: u32,
+    pub settings: Settings,
+}
+
+// answers
+pub const NOTHING: u32 = 0;
+pub const NEW: u32 = 1;
+pub const FOUND: u32 = 2;
+pub const FULL: u32 = 3;
+pub const OPEN: u32 = 4;
+
+#[derive(Clone, Copy, Debug, PartialEq, Eq)]
+pub struct Node {
+    pub pixel: u32,
+    pub next: u32,
+}
+
+#[derive(Clone, Copy, Debug, PartialEq, Eq)]
+pub struct Level {
+    pub previous: u32,
+    pub depth: u32,
+    pub entries: [u32; 8],
+}
+
+// The three areas; `rest` are words past the last whole node, level or worker.
+#[derive(Clone, Debug, PartialEq, Eq)]
+pub struct Areas {
+    pub nodes: Vec<u32>,
+    pub levels: Vec<u32>,
+    pub workers: Vec<u32>,
+}
+
+impl Areas {
+    fn node(&self, i: u32) -> Node {
+        let k = 2 * i as usize;
+        Node { pixel: self.nodes[k], next: self.nodes[k + 1] }
+    }
+    fn set_node(&mut self, i: u32, n: Node) {
+        let k = 2 * i as usize;
+        self.nodes[k] = n.pixel;
+        self.nodes[k + 1] = n.next;
+    }
+    fn level(&self, g: u32) -> Level {
+        let k = 10 * g as usize;
+        let mut entries = [0; 8];
+        entries.copy_from_slice(&self.levels[k + 2..k + 10]);
+        Level { previous: self.levels[k], depth: self.levels[k + 1], entries }
+    }
+    fn set_level(&mut self, g: u32, l: Level) {
+        let k = 10 * g as usize;
+        self.levels[k] = l.previous;
+        self.levels[k + 1] = l.depth;
+        self.levels[k + 2..k + 10].copy_from_slice(&l.entries);
+    }
+}
+
+#[derive(Clone, Copy, Debug, PartialEq, Eq)]
+pub enum Ref {
+    Level(u32),
+    Node(u32),
+}
+
+fn reference(word: u32) -> Ref {
+    if word & 1 == 1 {
+        Ref::Node(word >> 1)
+    } else {
+        Ref::Level(word >> 1)
+    }
+}
+
+pub fn level_count(s: &Settings) -> u64 {
+    1 + 7 * (s.nodes as u64 / s.limit as u64) + s.workers as u64
+}
+
+// The kinds of turn, by their number in docs/LAYOUT.md.
+#[derive(Clone, Copy, Debug, PartialEq, Eq, PartialOrd, Ord, Hash)]
+#[repr(u32)]
+pub enum Kind {
+    Idle,
+    Look,
+    Take,
+    Put,
+    Read,
+    Tail,
+    TakeTail,
+    Append,
+    Level,
+    Close,
+    Follow,
+    ChainHead,
+    ChainNext,
+    SetNext,
+    SetLook,
+    SetPut,
+    SetRead,
+    SetTail,
+    SetAppend,
+    SetLevel,
+    SetClose,
+    SetFollow,
+    MoveEnd,
+}
+pub const KINDS: [Kind; 23] = {
+    use Kind::*;
+    [
+        Idle, Look, Take, Put, Read, Tail, TakeTail, Append, Level, Close, Follow, ChainHead, ChainNext, SetNext, SetLook, SetPut, SetRead, SetTail,
+        SetAppend, SetLevel, SetClose, SetFollow, MoveEnd,
+    ]
+};
+
+#[derive(Clone, Debug, PartialEq, Eq)]
+pub struct Chain {
+    pub home: u32,
+    pub child: u32,
+    pub count: u32,
+    pub nodes: [u32; 8],
+}
+
+impl Chain {
+    fn last(&self) -> u32 {
+        self.nodes[self.count as usize - 1]
+    }
+}
+
+// A worker as its words say; only what fits its layout is ever made.
+#[derive(Clone, Debug)]
+pub struct Worker {
+    pub kind: Kind,
+    pub pixel: u32,
+    pub level: u32,
+    pub node: u32,
+    pub count: u32,
+    pub held_node: u32,
+    pub held_level: u32,
+    pub answer: u32,
+    pub answer_node: u32,
+    pub moves: Vec<Chain>,
+}
+
+// What was seen, for coverage: kinds carried out, exchanges that failed by kind, Moves open, numbers given, and 6 by kind.
+#[derive(Clone, Debug, Default)]
+pub struct Seen {
+    pub kinds: [u64; 23],
+    pub failed: [u64; 23],
+    pub nested: [u64; 8],
+    pub numbers: [u64; 10],
+    pub sixes: [u64; 24],
+}
+
+pub struct Model {
+    pub settings: Settings,
+    pub areas: Areas,
+    pub seen: Seen,
+}
+
+type Asked<T> = Result<T, u32>;
+
+fn yes(b: bool) -> Asked<()> {
+    if b {
+        Ok(())
+    } else {
+        Err(6)
+    }
+}
+
+impl Model {
+    pub fn new(settings: Settings, areas: Areas) -> Model {
+        Model { settings, areas, seen: Seen::default() }
+    }
+
+    fn reply(&self, number: u32, answer: u32, node: u32, turns: u32) -> Reply {
+        Reply { number, answer, node, turns, settings: self.settings }
+    }
+
+    fn refuse(&mut self, number: u32) -> Reply {
+        self.seen.numbers[number as usize] += 1;
+        self.reply(number, NOTHING, 0, 0)
+    }
+
+    // questions 1 and 2
+    fn sizes(&self) -> Asked<()> {
+        let s = &self.settings;
+        if !(1..=16).contains(&s.workers) || !(1..=8).contains(&s.limit) || !(1..=4096).contains(&s.nodes) {
+            return Err(1);
+        }
+        let short = (self.areas.nodes.len() as u64) < 2 * s.nodes as u64
+            || (self.areas.levels.len() as u64) < 10 * level_count(s)
+            || (self.areas.workers.len() as u64) < 128 * s.workers as u64;
+        if short {
+            Err(2)
+        } else {
+            Ok(())
+        }
+    }
+
+    // questions 1 to 3
+    fn counts(&self) -> Asked<()> {
+        self.sizes()?;
+        let s = &self.settings;
+        if s.nodes_taken > s.nodes || s.levels_taken < 1 || s.levels_taken as u64 > level_count(s) {
+            return Err(3);
+        }
+        Ok(())
+    }
+
+    pub fn open(&mut self) -> Reply {
+        if let Err(n) = self.sizes() {
+            return self.refuse(n);
+        }
+        self.settings.nodes_taken = 0;
+        self.settings.levels_taken = 1;
+        self.areas.set_level(0, Level { previous: NONE, depth: 0, entries: [0; 8] });
+        let words = 128 * self.settings.workers as usize;
+        self.areas.workers[..words].fill(0);
+        self.reply(0, NOTHING, 0, 0)
+    }
+
+    // the record of worker i, if it fits its layout
+    fn worker(&self, i: u32) -> Asked<Worker> {
+        let w = &self.areas.workers[128 * i as usize..128 * i as usize + 128];
+        yes(w[0] <= 22)?;
+        let kind = KINDS[w[0] as usize];
+        let limit = self.settings.limit;
+        let mut r = Worker {
+            kind,
+            pixel: w[1],
+            level: w[2],
+            node: w[3],
+            count: w[4],
+            held_node: w[5],
+            held_level: w[6],
+            answer: w[7],
+            answer_node: w[8],
+            moves: vec![],
+        };
+        if kind == Kind::Idle {
+            yes(r.answer <= 3)?;
+            return Ok(r);
+        }
+        yes(r.pixel <= MAX_PIXEL)?;
+        if matches!(w[0], 5..=10 | 17..=21) {
+            yes(r.count >= 1 && r.count <= limit + 1)?;
+        }
+        if w[0] <= 10 {
+            yes(w[9] == 0)?;
+            return Ok(r);
+        }
+        yes(w[9] >= 1 && w[9] <= 7)?;
+        for j in 0..w[9] as usize {
+            let m = &w[16 + 11 * j..27 + 11 * j];
+            let innermost = j + 1 == w[9] as usize;
+            let none = innermost && matches!(kind, Kind::ChainHead | Kind::MoveEnd);
+            yes(if none { m[2] == 0 } else { m[2] >= 1 && m[2] <= limit })?;
+            let mut nodes = [0; 8];
+            nodes.copy_from_slice(&m[3..11]);
+            r.moves.push(Chain { home: m[0], child: m[1], count: m[2], nodes });
+        }
+        Ok(r)
+    }
+
+    fn keep(&mut self, i: u32, r: &Worker) {
+        let w = &mut self.areas.workers[128 * i as usize..128 * i as usize + 128];
+        let head = [
+            r.kind as u32,
+            r.pixel,
+            r.level,
+            r.node,
+            r.count,
+            r.held_node,
+            r.held_level,
+            r.answer,
+            r.answer_node,
+            r.moves.len() as u32,
+        ];
+        w[..10].copy_from_slice(&head);
+        for (j, m) in r.moves.iter().enumerate() {
+            let at = 16 + 11 * j;
+            w[at] = m.home;
+            w[at + 1] = m.child;
+            w[at + 2] = m.count;
+            w[at + 3..at + 11].copy_from_slice(&m.nodes);
+        }
+    }
+
+    pub fn start(&mut self, i: u32, row: u32, column: u32) -> Reply {
+        let asked = (|| {
+            self.counts()?;
+            if i >= self.settings.workers {
+                return Err(4);
+            }
+            if row > 4095 || column > 4095 {
+                return Err(5);
+            }
+            let r = self.worker(i)?;
+            if r.kind != Kind::Idle {
+                return Err(7);
+            }
+            Ok(r)
+        })();
+        match asked {
+            Err(n) => self.refuse(n),
+            Ok(mut r) => {
+                r.kind = Kind::Look;
+                r.pixel = row * 4096 + column;
+                r.level = 0;
+                self.keep(i, &r);
+                self.reply(0, OPEN, 0, 0)
+            }
+        }
+    }
+
+    pub fn last(&mut self, i: u32) -> Reply {
+        let asked = (|| {
+            self.counts()?;
+            if i >= self.settings.workers {
+                return Err(4);
+            }
+            self.worker(i)
+        })();
+        match asked {
+            Err(n) => self.refuse(n),
+            Ok(r) if r.kind != Kind::Idle => self.reply(0, OPEN, 0, 0),
+            Ok(r) => {
+                let node = if r.answer == NEW || r.answer == FOUND { r.answer_node } else { 0 };
+                self.reply(0, r.answer, node, 0)
+            }
+        }
+    }
+
+    pub fn turn(&mut self, i: u32) -> Reply {
+        if let Err(n) = self.counts() {
+            return self.refuse(n);
+        }
+        if i >= self.settings.workers {
+            return self.refuse(4);
+        }
+        self.one(i)
+    }
+
+    // one turn, questions 1 to 4 being answered yes
+    fn one(&mut self, i: u32) -> Reply {
+        let r = match self.worker(i) {
+            Err(n) => {
+                self.seen.sixes[23] += 1;
+                return self.refuse(n);
+            }
+            Ok(r) => r,
+        };
+        if r.kind == Kind::Idle {
+            return self.refuse(8);
+        }
+        let kind = r.kind;
+        match self.act(r) {
+            Err(9) => {
+                self.seen.numbers[9] += 1;
+                let mut r = self.worker(i).unwrap();
+                r.kind = Kind::Idle;
+                r.answer = FULL;
+                r.answer_node = 0;
+                r.moves.clear();
+                self.keep(i, &r);
+                self.reply(9, FULL, 0, 0)
+            }
+            Err(n) => {
+                self.seen.sixes[kind as usize] += 1;
+                self.refuse(n)
+            }
+            Ok((r, answer, node)) => {
+                self.seen.kinds[kind as usize] += 1;
+                self.seen.nested[r.moves.len()] += 1;
+                self.keep(i, &r);
+                self.reply(0, answer, node, 0)
+            }
+        }
+    }
+
+    pub fn turns(&mut self, list: &[u8], limit: u32) -> Reply {
+        if let Err(n) = self.counts() {
+            return self.refuse(n);
+        }
+        if list.iter().any(|&i| i as u32 >= self.settings.workers) {
+            return self.refuse(4);
+        }
+        let mut done = 0;
+        for &i in list {
+            if done == limit {
+                break;
+            }
+            match self.one(i as u32).number {
+                8 => {}
+                6 => return self.reply(6, NOTHING, 0, done),
+                _ => done += 1,
+            }
+        }
+        self.reply(0, NOTHING, 0, done)
+    }
+
+    fn level_taken(&self, g: u32) -> Asked<()> {
+        yes(g < self.settings.levels_taken)
+    }
+    fn node_taken(&self, n: u32) -> Asked<()> {
+        yes(n < self.settings.nodes_taken)
+    }
+    // the number of something held: in hand it must be there
+    fn held(&self, word: u32, taken: u32) -> Asked<u32> {
+        yes(word >= 1 && word <= taken)?;
+        Ok(word - 1)
+    }
+    // where pixel p goes in level g, which is taken and not too deep
+    fn entry(&self, g: u32, p: u32) -> Asked<usize> {
+        self.level_taken(g)?;
+        let d = self.areas.level(g).depth;
+        yes(d <= 7)?;
+        yes(p <= MAX_PIXEL)?;
+        Ok((p >> (3 * (7 - d)) & 7) as usize)
+    }
+    fn taken(&self, word: u32) -> Asked<Ref> {
+        match reference(word) {
+            Ref::Level(g) => self.level_taken(g)?,
+            Ref::Node(n) => self.node_taken(n)?,
+        }
+        Ok(reference(word))
+    }
+    fn node_pixel(&self, n: u32) -> Asked<u32> {
+        self.node_taken(n)?;
+        let p = self.areas.node(n).pixel;
+        yes(p <= MAX_PIXEL)?;
+        Ok(p)
+    }
+    // from level t back to the child of g
+    fn back(&self, t: u32, g: u32) -> Asked<u32> {
+        let mut at = t;
+        for _ in 0..7 {
+            let p = self.areas.level(at).previous;
+            if p == g {
+                return Ok(at);
+            }
+            self.level_taken(p)?;
+            at = p;
+        }
+        Err(6)
+    }
+    fn next_count(&self, c: u32) -> u32 {
+        (c + 1).min(self.settings.limit + 1)
+    }
+
+    // a level for the worker's own level: the spare one or the next number
+    fn new_level(&mut self, r: &mut Worker) -> Asked<()> {
+        self.level_taken(r.level)?;
+        yes(r.held_level <= self.settings.levels_taken)?;
+        let depth = self.areas.level(r.level).depth;
+        yes(depth <= 6)?;
+        let g = if r.held_level > 0 {
+            r.held_level - 1
+        } else {
+            yes((self.settings.levels_taken as u64) < level_count(&self.settings))?;
+            self.settings.levels_taken += 1;
+            self.settings.levels_taken - 1
+        };
+        self.areas.set_level(g, Level { previous: r.level, depth: depth + 1, entries: [2 * g; 8] });
+        r.held_level = g + 1;
+        Ok(())
+    }
+
+    // a node for the call: the spare one or the next number, else full
+    fn new_node(&mut self, r: &mut Worker) -> Asked<()> {
+        self.level_taken(r.level)?;
+        yes(r.held_node <= self.settings.nodes_taken)?;
+        let n = if r.held_node > 0 {
+            r.held_node - 1
+        } else if self.settings.nodes_taken < self.settings.nodes {
+            self.settings.nodes_taken += 1;
+            self.settings.nodes_taken - 1
+        } else {
+            return Err(9);
+        };
+        self.areas.set_node(n, Node { pixel: r.pixel, next: 2 * r.level });
+        r.held_node = n + 1;
+        Ok(())
+    }
+
+    // exchange a word from the level's reference
+    fn exchange(&mut self, kind: Kind, word: u32, level: u32) -> bool {
+        let done = word as u64 == 2 * level as u64;
+        if !done {
+            self.seen.failed[kind as usize] += 1;
+        }
+        done
+    }
+
+    fn met(&self, mut r: Worker, word: u32, count: u32, down: impl Fn(&Model, u32) -> Asked<u32>) -> Asked<(Worker, u32, u32)> {
+        match self.taken(word)? {
+            Ref::Node(n) => {
+                if self.node_pixel(n)? == r.pixel {
+                    r.kind = Kind::Idle;
+                    r.answer = FOUND;
+                    r.answer_node = n;
+                    return Ok((r, FOUND, n));
+                }
+                r.kind = Kind::Tail;
+                r.node = n;
+                r.count = count;
+            }
+            Ref::Level(t) => {
+                r.level = down(self, t)?;
+                r.kind = Kind::Look;
+            }
+        }
+        Ok((r, OPEN, 0))
+    }
+
+    // the node set is done: the next one, or the entry
+    fn after_node(&self, r: &mut Worker) {
+        let m = r.moves.last().unwrap();
+        if m.count == 0 {
+            r.kind = Kind::MoveEnd;
+        } else {
+            r.kind = Kind::SetNext;
+            r.level = m.child;
+        }
+    }
+
+    // the key of the innermost Move
+    fn key(&self, r: &Worker) -> Asked<u32> {
+        let n = r.moves.len();
+        if n == 1 {
+            Ok(r.pixel)
+        } else {
+            self.node_pixel(r.moves[n - 2].last())
+        }
+    }
+
+    fn remember(&self, r: &mut Worker, word: u32) -> Asked<()> {
+        let limit = self.settings.limit;
+        match self.taken(word)? {
+            Ref::Node(n) => {
+                let m = r.moves.last_mut().unwrap();
+                yes(m.count + 1 <= limit)?;
+                m.nodes[m.count as usize] = n;
+                m.count += 1;
+                r.kind = Kind::ChainNext;
+            }
+            Ref::Level(_) => self.after_node(r),
+        }
+        Ok(())
+    }
+
+    // what each kind of turn does; Err(6) and Err(9) change nothing
+    fn act(&mut self, mut r: Worker) -> Asked<(Worker, u32, u32)> {
+        use Kind::*;
+        let limit = self.settings.limit;
+        let kind = r.kind;
+        match kind {
+            Idle => unreachable!(),
+            Look => {
+                let e = self.entry(r.level, r.pixel)?;
+                let word = self.areas.level(r.level).entries[e];
+                self.taken(word)?;
+                r.kind = if word == 2 * r.level { Take } else { Read };
+            }
+            Take => {
+                self.new_node(&mut r)?;
+                r.kind = Put;
+            }
+            TakeTail => {
+                self.new_node(&mut r)?;
+                r.kind = Append;
+            }
+            Put => {
+                let e = self.entry(r.level, r.pixel)?;
+                let n = self.held(r.held_node, self.settings.nodes_taken)?;
+                let mut l = self.areas.level(r.level);
+                if self.exchange(kind, l.entries[e], r.level) {
+                    l.entries[e] = 2 * n + 1;
+                    self.areas.set_level(r.level, l);
+                    return Ok((Self::ended(r, n), NEW, n));
+                }
+                r.kind = Read;
+            }
+            Append => {
+                self.level_taken(r.level)?;
+                self.node_taken(r.node)?;
+                let n = self.held(r.held_node, self.settings.nodes_taken)?;
+                let mut x = self.areas.node(r.node);
+                if self.exchange(kind, x.next, r.level) {
+                    x.next = 2 * n + 1;
+                    self.areas.set_node(r.node, x);
+                    return Ok((Self::ended(r, n), NEW, n));
+                }
+                r.kind = Follow;
+            }
+            Read => {
+                let e = self.entry(r.level, r.pixel)?;
+                let word = self.areas.level(r.level).entries[e];
+                return self.met(r, word, 1, |_, t| Ok(t));
+            }
+            Follow => {
+                self.level_taken(r.level)?;
+                self.node_taken(r.node)?;
+                let word = self.areas.node(r.node).next;
+                let (count, h) = (self.next_count(r.count), r.level);
+                return self.met(r, word, count, |m, t| m.back(t, h));
+            }
+            Tail | SetTail => {
+                self.level_taken(r.level)?;
+                self.node_taken(r.node)?;
+                let word = self.areas.node(r.node).next;
+                self.taken(word)?;
+                let (append, level, follow) = if kind == Tail { (TakeTail, Level, Follow) } else { (SetAppend, SetLevel, SetFollow) };
+                r.kind = if word != 2 * r.level || r.count > limit {
+                    follow
+                } else if r.count < limit {
+                    append
+                } else {
+                    level
+                };
+            }
+            Level => {
+                self.new_level(&mut r)?;
+                r.kind = Close;
+            }
+            SetLevel => {
+                self.new_level(&mut r)?;
+                r.kind = SetClose;
+            }
+            Close | SetClose => {
+                self.level_taken(r.level)?;
+                self.node_taken(r.node)?;
+                let g = self.held(r.held_level, self.settings.levels_taken)?;
+                let mut x = self.areas.node(r.node);
+                let would = x.next == 2 * r.level;
+                yes(!(would && r.moves.len() == 7))?;
+                if self.exchange(kind, x.next, r.level) {
+                    x.next = 2 * g;
+                    self.areas.set_node(r.node, x);
+                    r.held_level = 0;
+                    r.kind = ChainHead;
+                    r.moves.push(Chain { home: r.level, child: g, count: 0, nodes: [0; 8] });
+                } else {
+                    r.kind = if kind == Close { Follow } else { SetFollow };
+                }
+            }
+            ChainHead => {
+                let key = self.key(&r)?;
+                let home = r.moves.last().unwrap().home;
+                let e = self.entry(home, key)?;
+                let word = self.areas.level(home).entries[e];
+                self.remember(&mut r, word)?;
+            }
+            ChainNext => {
+                let n = r.moves.last().unwrap().last();
+                self.node_taken(n)?;
+                let word = self.areas.node(n).next;
+                self.remember(&mut r, word)?;
+            }
+            SetNext => {
+                let n = r.moves.last().unwrap().last();
+                self.node_taken(n)?;
+                self.level_taken(r.level)?;
+                let mut x = self.areas.node(n);
+                x.next = 2 * r.level;
+                self.areas.set_node(n, x);
+                r.kind = SetLook;
+            }
+            SetLook | SetRead | SetPut => {
+                let n = r.moves.last().unwrap().last();
+                let e = self.entry(r.level, self.node_pixel(n)?)?;
+                let mut l = self.areas.level(r.level);
+                let word = l.entries[e];
+                if kind == SetPut {
+                    if self.exchange(kind, word, r.level) {
+                        l.entries[e] = 2 * n + 1;
+                        self.areas.set_level(r.level, l);
+                        r.moves.last_mut().unwrap().count -= 1;
+                        self.after_node(&mut r);
+                    } else {
+                        r.kind = SetRead;
+                    }
+                } else if kind == SetLook {
+                    self.taken(word)?;
+                    r.kind = if word == 2 * r.level { SetPut } else { SetRead };
+                } else {
+                    match self.taken(word)? {
+                        Ref::Node(x) => {
+                            r.kind = SetTail;
+                            r.node = x;
+                            r.count = 1;
+                        }
+                        Ref::Level(t) => {
+                            r.kind = SetNext;
+                            r.level = t;
+                        }
+                    }
+                }
+            }
+            SetAppend => {
+                let n = r.moves.last().unwrap().last();
+                self.node_taken(n)?;
+                self.level_taken(r.level)?;
+                self.node_taken(r.node)?;
+                let mut x = self.areas.node(r.node);
+                if self.exchange(kind, x.next, r.level) {
+                    x.next = 2 * n + 1;
+                    self.areas.set_node(r.node, x);
+                    r.moves.last_mut().unwrap().count -= 1;
+                    self.after_node(&mut r);
+                } else {
+                    r.kind = SetFollow;
+                }
+            }
+            SetFollow => {
+                self.level_taken(r.level)?;
+                self.node_taken(r.node)?;
+                let word = self.areas.node(r.node).next;
+                match self.taken(word)? {
+                    Ref::Node(x) => {
+                        r.count = self.next_count(r.count);
+                        r.kind = SetTail;
+                        r.node = x;
+                    }
+                    Ref::Level(t) => {
+                        r.level = self.back(t, r.level)?;
+                        r.kind = SetNext;
+                    }
+                }
+            }
+            MoveEnd => {
+                let key = self.key(&r)?;
+                let m = r.moves.last().unwrap().clone();
+                let e = self.entry(m.home, key)?;
+                self.level_taken(m.child)?;
+                let mut l = self.areas.level(m.home);
+                l.entries[e] = 2 * m.child;
+                self.areas.set_level(m.home, l);
+                r.moves.pop();
+                r.level = m.child;
+                r.kind = if r.moves.is_empty() { Look } else { SetNext };
+            }
+        }
+        Ok((r, OPEN, 0))
+    }
+
+    fn ended(mut r: Worker, n: u32) -> Worker {
+        r.kind = Kind::Idle;
+        r.answer = NEW;
+        r.answer_node = n;
+        r.held_node = 0;
+        r
+    }
+}

@@ -1,0 +1,80 @@
+// The table under test: the static library's functions, as include/leafdrum.h declares them. Nothing checks these declarations against the Rattle source.
+use crate::model::{Areas, Reply, Settings};
+
+#[repr(C)]
+#[derive(Clone, Copy)]
+struct CSettings {
+    workers: u32,
+    limit: u32,
+    nodes: u32,
+    nodes_taken: u32,
+    levels_taken: u32,
+}
+
+#[repr(C)]
+#[derive(Clone, Copy)]
+struct CReply {
+    number: u32,
+    answer: u32,
+    node: u32,
+    turns: u32,
+    settings: CSettings,
+}
+
+extern "C" {
+    fn leafdrum_open(s: CSettings, n: *mut u32, nl: usize, l: *mut u32, ll: usize, w: *mut u32, wl: usize) -> CReply;
+    fn leafdrum_start(s: CSettings, i: u32, row: u32, column: u32, n: *mut u32, nl: usize, l: *mut u32, ll: usize, w: *mut u32, wl: usize) -> CReply;
+    fn leafdrum_turn(s: CSettings, i: u32, n: *mut u32, nl: usize, l: *mut u32, ll: usize, w: *mut u32, wl: usize) -> CReply;
+    fn leafdrum_turns(s: CSettings, list: *const u8, count: usize, limit: u32, n: *mut u32, nl: usize, l: *mut u32, ll: usize, w: *mut u32, wl: usize) -> CReply;
+    fn leafdrum_last(s: CSettings, i: u32, n: *mut u32, nl: usize, l: *mut u32, ll: usize, w: *mut u32, wl: usize) -> CReply;
+    fn leafdrum_level_count(s: CSettings) -> u32;
+}
+
+pub struct Table {
+    pub settings: Settings,
+    pub areas: Areas,
+}
+
+fn to_c(s: &Settings) -> CSettings {
+    CSettings { workers: s.workers, limit: s.limit, nodes: s.nodes, nodes_taken: s.nodes_taken, levels_taken: s.levels_taken }
+}
+
+fn from_c(r: CReply) -> Reply {
+    let s = r.settings;
+    let settings = Settings { workers: s.workers, limit: s.limit, nodes: s.nodes, nodes_taken: s.nodes_taken, levels_taken: s.levels_taken };
+    Reply { number: r.number, answer: r.answer, node: r.node, turns: r.turns, settings }
+}
+
+impl Table {
+    pub fn new(settings: Settings, areas: Areas) -> Table {
+        Table { settings, areas }
+    }
+
+    // hands in the newest settings and keeps those given back
+    fn call(&mut self, f: impl FnOnce(CSettings, *mut u32, usize, *mut u32, usize, *mut u32, usize) -> CReply) -> Reply {
+        let a = &mut self.areas;
+        let (n, l, w) = (a.nodes.as_mut_ptr(), a.levels.as_mut_ptr(), a.workers.as_mut_ptr());
+        let r = from_c(f(to_c(&self.settings), n, a.nodes.len(), l, a.levels.len(), w, a.workers.len()));
+        self.settings = r.settings;
+        r
+    }
+    pub fn open(&mut self) -> Reply {
+        self.call(|s, n, nl, l, ll, w, wl| unsafe { leafdrum_open(s, n, nl, l, ll, w, wl) })
+    }
+    pub fn start(&mut self, i: u32, row: u32, column: u32) -> Reply {
+        self.call(|s, n, nl, l, ll, w, wl| unsafe { leafdrum_start(s, i, row, column, n, nl, l, ll, w, wl) })
+    }
+    pub fn turn(&mut self, i: u32) -> Reply {
+        self.call(|s, n, nl, l, ll, w, wl| unsafe { leafdrum_turn(s, i, n, nl, l, ll, w, wl) })
+    }
+    pub fn turns(&mut self, list: &[u8], limit: u32) -> Reply {
+        self.call(|s, n, nl, l, ll, w, wl| unsafe { leafdrum_turns(s, list.as_ptr(), list.len(), limit, n, nl, l, ll, w, wl) })
+    }
+    pub fn last(&mut self, i: u32) -> Reply {
+        self.call(|s, n, nl, l, ll, w, wl| unsafe { leafdrum_last(s, i, n, nl, l, ll, w, wl) })
+    }
+}
+
+pub fn level_count(s: &Settings) -> u32 {
+    unsafe { leafdrum_level_count(to_c(s)) }
+}
