@@ -24,7 +24,8 @@ use Rattle.trie.proofs.Redirect.{redirect, redirect-grows}
 use Rattle.trie.proofs.Stand.{at-entry}
 use Rattle.trie.proofs.Search.{peek}
 use Rattle.trie.proofs.Move.{Frame, edge, aim, finish, finishes}
-use Rattle.trie.proofs.MoveTurns.{Finished, search-on, set-into, finish-can, finish-next, frame-published}
+use Rattle.trie.proofs.MoveTurns.{frame-published}
+use Rattle.trie.proofs.MoveEnd.{Finished, search-on, set-into, finish-can, finish-next}
 use Rattle.trie.proofs.Turns.{finish-step}
 use Rattle.trie.proofs.Whole.{Worker, ActOk, is-searching, is-moving, searching, moving, owner}
 use Rattle.rules.proofs.Matches.{Framed, Frames, none, more, entry, peeks, searches}

@@ -22,6 +22,7 @@ pub mod Sum
 pub mod Search
 pub mod Move
 pub mod MoveTurns
+pub mod MoveEnd
 pub mod Reached
 pub mod Whole
 pub mod Levels

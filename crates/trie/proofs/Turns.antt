@@ -1,5 +1,5 @@
 -- The turns that write, each as a step from the whole invariant to the whole invariant. The turns that only read, and failed exchanges, are `stay-step`.
--- Relies on Digits, Update, Chain, World, Evolve, Stand, Search, Move, MoveTurns, Place, TakeNode, TakeLevel, MoveOne, Redirect, Close and Whole.
+-- Relies on Digits, Update, Chain, World, Evolve, Stand, Search, Move, MoveTurns, MoveEnd, Place, TakeNode, TakeLevel, MoveOne, Redirect, Close and Whole.
 use mathlib.Core.Path.{_≡_, sym, ap, _∙_}
 use mathlib.Core.Logic.{_≢_, _⊎_, inl, inr, _↔_, Iff·rfl, Iff·trans}
 use mathlib.Core.List.{List, [], _∷_, _++_}
@@ -14,7 +14,8 @@ use Rattle.trie.proofs.Evolve.{Grows, Spares}
 use Rattle.trie.proofs.Stand.{Pos, at-entry, passed}
 use Rattle.trie.proofs.Search.{peek, fetch, put, level, shut, put-done, shut-done, fetch-put, level-shut, word}
 use Rattle.trie.proofs.Move.{Frame, edge, FrameOk, Setting, gather, aim, set, aims, sets, set-shuts}
-use Rattle.trie.proofs.MoveTurns.{shut-moves, can-aim, aim-set, set-shut, shut-can, set-shut-moves, put-can, finish-can}
+use Rattle.trie.proofs.MoveTurns.{shut-moves, can-aim, aim-set, set-shut, shut-can, set-shut-moves, put-can}
+use Rattle.trie.proofs.MoveEnd.{finish-can}
 use Rattle.trie.proofs.Place.{place, place-structure, place-partition, place-grows, place-spares}
 use Rattle.trie.proofs.TakeNode.{takeNode, take-structure, take-partition, take-grows, take-spares}
 use Rattle.trie.proofs.TakeLevel.{takeLevel, level-structure, level-partition, level-grows, level-spares}
