@@ -57,4 +57,5 @@ pub mod Sequence
 pub mod Counting
 pub mod Reach
 pub mod Theorem
+pub mod Operated
 pub mod Consequences

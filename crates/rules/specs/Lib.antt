@@ -14,3 +14,4 @@ pub mod Calls
 pub mod Refusals
 pub mod Demands
 pub mod Consequences
+pub mod Sequences
