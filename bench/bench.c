@@ -38,8 +38,10 @@ static double now(void) {
 
 enum load { FOUND, INSERT, MOVES };
 static const char *names[] = {"found", "insert", "moves"};
-static uint32_t pixel(enum load l, uint32_t count) {
-    return l == MOVES ? draw(count) : draw(count) * 2654435761u & 0xffffff; /* neighbours share seven digits */
+
+/* the k-th pixel: all differ; of MOVES each second one shares seven digits with the one before it, so that its chain moves seven times */
+static uint32_t pixel(enum load l, uint32_t k) {
+    return l == MOVES ? ((k >> 1) * 2654435761u & 0x7fffff) << 1 | (k & 1) : k * 2654435761u & 0xffffff;
 }
 
 /* turns of all workers, one after the other, until every call has ended; returns the turns done */
@@ -78,14 +80,15 @@ static double pass(const table *t, enum load l, uint32_t crew, uint32_t n, int l
     while (done < want) {
         s = t->open(s, nodes, 2 * n, levels, lw, workers, 128 * crew).settings;
         for (uint32_t k = 0; l == FOUND && k < n; k++) {
-            uint32_t p = pixel(l, n);
+            uint32_t p = pixel(l, k);
             s = t->start(s, 0, p >> 12, p & 4095, nodes, 2 * n, levels, lw, workers, 128 * crew).settings;
             rest(t, &s, crew, n, lw, 1);
         }
         double a = now();
-        for (uint64_t rounds = 0; rounds < (l == FOUND ? 1000000 : 2 * (uint64_t)n / crew + 1) && done < want; rounds++) {
+        /* FOUND asks for pixels that are there until enough turns are done; the others place each pixel once and open anew */
+        for (uint32_t k = 0; done < want && (l == FOUND || k + crew <= n); k += crew) {
             for (uint32_t i = 0; i < crew; i++) {
-                uint32_t p = pixel(l, n);
+                uint32_t p = pixel(l, l == FOUND ? draw(n) : k + i);
                 s = t->start(s, i, p >> 12, p & 4095, nodes, 2 * n, levels, lw, workers, 128 * crew).settings;
             }
             done += rest(t, &s, crew, n, lw, lists);

@@ -1,5 +1,5 @@
 // The C interface: the public operations with their answers as numbers. include/leafdrum.h declares it; nothing checks that header.
-// Relies on table and turns for the operations.
+// Relies on table, turns and lists for the operations.
 ghost use mathlib.Core.Path.{_≡_};
 ghost use Rattle.areas.specs.Memory.{areas};
 ghost use Rattle.record.specs.Kinds.{answerNo, answerNode};
@@ -109,7 +109,7 @@ pub extern "C" fn leafdrum_turns(
 ) -> LeafdrumReply
     ensures { λ r. ⌜ shown r (areas (now (nodes .exit)) (now (levels .exit)) (now (workers .exit))) ≡ exported (turns 3 settings (now (list .entry)) limit (areas (now (nodes .entry)) (now (levels .entry)) (now (workers .entry)))) ⌝ }
 {
-    numbers(turns::turns(settings, list, limit, nodes, levels, workers))
+    numbers(lists::turns(settings, list, limit, nodes, levels, workers))
 }
 
 #[no_mangle]

@@ -7,7 +7,7 @@ use Prim.Native.Nat.{ℕ, zero, suc, _≤_}
 use native.Mathlib.Omega.{arith}
 use lib.Dec.{leb, eqb}
 use lib.ListN.{List·getD-eq-default, replicate}
-use borrow.Author.Tests.{eqb-true, leb-true, leb-false}
+use borrow.Author.Tests.{eqb-true, ne-eqb, leb-true, leb-false}
 use Rattle.words.specs.Choice.{both}
 use Rattle.words.proofs.Table.{at}
 use Rattle.record.specs.declared.Kind.{Kind}
@@ -52,6 +52,17 @@ number-known n h = eqb-true _ _ (at (λ k x. eqb (kindNo (kindOf k)) k) (replica
 pub unknown : {n : ℕ} → 23 ≤ n → Unknown ≡ kindOf n
 unfolding kindOf kinds
 unknown {n} h = sym (List·getD-eq-default kinds Unknown h)
+
+-- 0 alone is the number of Idle
+pub number-zero : (n : ℕ) → eqb (kindNo (kindOf n)) 0 ≡ eqb n 0
+unfolding kindNo
+number-zero n = by (leb n 22) refl
+  where
+    by : (b : Bool) → leb n 22 ≡ b → eqb (kindNo (kindOf n)) 0 ≡ eqb n 0
+    by true e = ap (λ (k : ℕ). eqb k 0) (number-known n (leb-true _ _ e))
+    by false e =
+        let h : 23 ≤ n = leb-false _ _ e in
+        ap (λ (k : Kind). eqb (kindNo k) 0) (sym (unknown h)) ∙ sym (ne-eqb n 0 (λ z. omega arith))
 
 pub answer-rest : (c n : ℕ) → (c ≡ 1 → ⊥) → (c ≡ 2 → ⊥) → (c ≡ 3 → ⊥) → Nothing ≡ answerOf c n
 unfolding answerOf

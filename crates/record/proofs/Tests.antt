@@ -1,12 +1,14 @@
 -- The ways through the functions that ask whether a record fits its layout, each from what the called functions give.
 -- Relies on Pieces for the number of Moves.
-use mathlib.Core.Path.{_≡_, refl}
+use mathlib.Core.Path.{_≡_, refl, _∙_}
+use mathlib.Core.Logic.{_≢_}
 use mathlib.Core.Bool.{Bool, true, false}
 use mathlib.Core.List.{List}
-use Prim.Native.Nat.{ℕ, zero, suc, _+_, _-_, _≤_}
+use Prim.Native.Nat.{ℕ, zero, suc, _+_, _-_, _≤_, _<_}
 use native.Mathlib.Omega.{arith}
 use native.Mathlib.Numerals.{add-one}
 use lib.Dec.{leb, eqb}
+use borrow.Author.Tests.{ne-eqb, le-leb, lt-leb}
 use Rattle.words.specs.Choice.{pick, both, every}
 use Rattle.words.specs.Digits.{maxPixel}
 use Rattle.settings.specs.Sizes.{maxMoves, within}
@@ -84,39 +86,39 @@ module _ (w : ℕ) (s : Settings) (k : ℕ) (l : List ℕ) (i : ℕ) where
   unfolding movingFits pick
   moving-many n t = rw length-first (simp t)
 
--- open_fits and fits
-abbrev pub openFits : ℕ → Settings → ℕ → Head → List ℕ → ℕ → Bool
-openFits w s k h l i =
-    pick (leb k 10)
-    (both (callFits s k h) (eqb (movesAt w l i) 0))
-    (pick (leb k 22) (both (callFits s k h) (movingFits w s k (firstMoves w l i (movesAt w l i)))) false)
-
-module _ (w : ℕ) (s : Settings) (k : ℕ) (h : Head) (l : List ℕ) (i : ℕ) where
-  pub open-searching :
+-- search_fits, move_fits and fits: the head h of worker i, with the number k of its kind
+module _ (w : ℕ) (s : Settings) (l : List ℕ) (i : ℕ) {k : ℕ} {h : Head} where
+  pub fits-search :
       {b x y : Bool} {m : ℕ}
-      → b ≡ both x y → y ≡ eqb m 0 → x ≡ callFits s k h → leb k 10 ≡ true → m ≡ movesAt w l i → b ≡ openFits w s k h l i
-  unfolding pick
-  open-searching a b c t d = simp (a, b, c, t, d)
+      → b ≡ both x y → y ≡ eqb m 0 → m ≡ movesAt w l i → x ≡ callFits s k h → k ≡ kindNo (h .kind) → h ≡ headAt w l i → 1 ≤ kindNo (h .kind) → kindNo (h .kind) ≤ 10
+      → b ≡ fits w s (load w l i)
+  unfolding fits fitsBy load pick
+  fits-search a b m c e f low high =
+      simp (a, b, m, c, ← f, ← e, ne-eqb k 0 (λ z. omega arith), le-leb k 10 (omega arith), length-first)
 
-  pub open-moving :
+  pub fits-move :
       {b x y : Bool} {m : ℕ}
-      → b ≡ both x y → y ≡ movingFits w s k (firstMoves w l i m) → x ≡ callFits s k h → leb k 22 ≡ true → leb k 10 ≡ false → m ≡ movesAt w l i
-      → b ≡ openFits w s k h l i
-  unfolding pick
-  open-moving a b c t u d = simp (a, b, c, t, u, d)
+      → b ≡ both x y → y ≡ movingFits w s k (firstMoves w l i m) → x ≡ callFits s k h → leb k 22 ≡ true → m ≡ movesAt w l i → k ≡ kindNo (h .kind) → h ≡ headAt w l i → 11 ≤ kindNo (h .kind)
+      → b ≡ fits w s (load w l i)
+  unfolding fits fitsBy load pick
+  fits-move a b c t m e f low =
+      simp (a, b, c, ← m, ← f, ← e, ne-eqb k 0 (λ z. omega arith), lt-leb k 10 (omega arith), t)
 
-  pub open-unknown : leb k 22 ≡ false → leb k 10 ≡ false → false ≡ openFits w s k h l i
-  unfolding pick
-  open-unknown t u = simp (t, u)
+  pub fits-unknown : leb k 22 ≡ false → k ≡ kindNo (h .kind) → h ≡ headAt w l i → 11 ≤ kindNo (h .kind) → false ≡ fits w s (load w l i)
+  unfolding fits fitsBy load pick
+  fits-unknown t e f low = simp (← f, ← e, ne-eqb k 0 (λ z. omega arith), lt-leb k 10 (omega arith), t)
 
-module _ (w : ℕ) (s : Settings) (l : List ℕ) (i : ℕ) where
-  pub fits-idle :
-      {b : Bool} {k : ℕ} {h : Head} → b ≡ leb (h .answer) 3 → eqb k 0 ≡ true → k ≡ kindNo (h .kind) → h ≡ headAt w l i → b ≡ fits w s (load w l i)
+  pub fits-idle : {b : Bool} → b ≡ leb (h .answer) 3 → eqb k 0 ≡ true → k ≡ kindNo (h .kind) → h ≡ headAt w l i → b ≡ fits w s (load w l i)
   unfolding fits fitsBy load pick
   fits-idle a t b c = simp (a, ← c, ← b, t)
 
-  pub fits-open :
-      {b : Bool} {k : ℕ} {h : Head}
-      → b ≡ openFits w s k h l i → eqb k 0 ≡ false → k ≡ kindNo (h .kind) → h ≡ headAt w l i → b ≡ fits w s (load w l i)
-  unfolding fits fitsBy load pick
-  fits-open a t b c = simp (← c, ← b, t, length-first, a)
+-- the number of a head's kind, from the tests that led on
+module _ (h : Head) {k : ℕ} where
+  pub kind-open : k ≡ kindNo (h .kind) → (k ≡ 0 → ⊥) → 1 ≤ kindNo (h .kind)
+  kind-open e z = let y : kindNo (h .kind) ≢ 0 = λ u. z (e ∙ u) in omega arith
+
+  pub kind-low : k ≡ kindNo (h .kind) → k ≤ 10 → kindNo (h .kind) ≤ 10
+  kind-low e z = omega arith
+
+  pub kind-high : k ≡ kindNo (h .kind) → 10 < k → 11 ≤ kindNo (h .kind)
+  kind-high e z = omega arith

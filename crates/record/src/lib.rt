@@ -2,9 +2,9 @@
 // Relies on words for blocks, on settings for sizes and the chain limit.
 ghost use mathlib.Core.Path.{_≡_};
 ghost use Prim.Native.Nat.{_+_, _*_, _≤_};
-ghost use mathlib.Core.Bool.{false};
 ghost use lib.Dec.{leb, eqb};
-ghost use Rattle.words.specs.Choice.{pick, both, every};
+ghost use lib.ListN.{length};
+ghost use Rattle.words.specs.Choice.{every};
 ghost use Rattle.settings.specs.Sizes.{within};
 ghost use Rattle.record.specs.Kinds.{kindOf, kindNo, answerOf};
 ghost use Rattle.record.specs.Layout.{workerPlace, movePlace, headFrom, headList, headAt, movesAt, moveAt, firstMoves, load, storeHead, moveTo, newMove};
@@ -177,6 +177,27 @@ pub fn moves_at(words: &[u32], i: u32) -> u32
     ensures { λ r. ⌜ r ≡ movesAt 3 (now (words .entry)) i ⌝ }
 {
     at(words, worker_place(i) + 9)
+}
+
+// Worker i is idle, which its first word tells.
+pub fn idle_at(words: &[u32], i: u32) -> bool
+    ensures { λ r. ⌜ r ≡ eqb (kindNo (headAt 3 (now (words .entry)) i .kind)) 0 ⌝ }
+{
+    eq(at(words, worker_place(i)), 0)
+}
+
+// The number of worker i's last answer.
+pub fn answer_at(words: &[u32], i: u32) -> u32
+    ensures { λ r. ⌜ r ≡ headAt 3 (now (words .entry)) i .answer ⌝ }
+{
+    at(words, worker_place(i) + 7)
+}
+
+// The words of worker i are there. Who has tested it once reads and writes them without further tests.
+pub fn inside(words: &[u32], i: u32) -> bool
+    ensures { λ r. ⌜ r ≡ leb (128 * i + 128) (length (now (words .entry))) ⌝ }
+{
+    worker_place(i) + (Settings::WORKER_WORDS as usize) <= words.len()
 }
 
 impl Head {
@@ -357,33 +378,51 @@ fn moving_fits(s: Settings, k: u32, words: &[u32], i: u32, n: u32) -> bool
     }
 }
 
-fn open_fits(s: Settings, k: u32, h: Head, words: &[u32], i: u32) -> bool
+// The record of worker i fits its layout, where its head h is that of a search.
+pub fn search_fits(s: Settings, h: Head, words: &[u32], i: u32) -> bool
     requires { ⌜ s .limit ≤ 8 ⌝ }
-    ensures { λ r. ⌜ r ≡ pick (leb k 10) (both (callFits s k h) (eqb (movesAt 3 (now (words .entry)) i) 0)) (pick (leb k 22) (both (callFits s k h) (movingFits 3 s k (firstMoves 3 (now (words .entry)) i (movesAt 3 (now (words .entry)) i)))) false) ⌝ }
+    requires { ⌜ h ≡ headAt 3 (now words) i ⌝ }
+    requires { ⌜ 1 ≤ kindNo (h .kind) ⌝ }
+    requires { ⌜ kindNo (h .kind) ≤ 10 ⌝ }
+    ensures { λ r. ⌜ r ≡ fits 3 s (load 3 (now (words .entry)) i) ⌝ }
 {
+    let kind = h.kind;
+    let k = kind_no(kind);
+    and(call_fits(s, k, h), eq(moves_at(words, i), 0))
+}
+
+// The record of worker i fits its layout, where its head h is that of a Move or of no kind.
+pub fn move_fits(s: Settings, h: Head, words: &[u32], i: u32) -> bool
+    requires { ⌜ s .limit ≤ 8 ⌝ }
+    requires { ⌜ h ≡ headAt 3 (now words) i ⌝ }
+    requires { ⌜ 11 ≤ kindNo (h .kind) ⌝ }
+    ensures { λ r. ⌜ r ≡ fits 3 s (load 3 (now (words .entry)) i) ⌝ }
+{
+    let kind = h.kind;
+    let k = kind_no(kind);
     let m = moves_at(words, i);
-    if k <= 10 {
-        and(call_fits(s, k, h), eq(m, 0))
+    if k <= 22 {
+        and(call_fits(s, k, h), moving_fits(s, k, words, i, m))
     } else {
-        if k <= 22 {
-            and(call_fits(s, k, h), moving_fits(s, k, words, i, m))
-        } else {
-            false
-        }
+        false
     }
 }
 
-// The record of worker i fits its layout.
-pub fn fits(s: Settings, words: &[u32], i: u32) -> bool
+// The record of worker i with the head h fits its layout.
+pub fn fits(s: Settings, h: Head, words: &[u32], i: u32) -> bool
     requires { ⌜ s .limit ≤ 8 ⌝ }
+    requires { ⌜ h ≡ headAt 3 (now words) i ⌝ }
     ensures { λ r. ⌜ r ≡ fits 3 s (load 3 (now (words .entry)) i) ⌝ }
 {
-    let h = Head::load(words, i);
     let kind = h.kind;
     let k = kind_no(kind);
     if k == 0 {
         le(h.answer, 3)
     } else {
-        open_fits(s, k, h, words, i)
+        if k <= 10 {
+            search_fits(s, h, words, i)
+        } else {
+            move_fits(s, h, words, i)
+        }
     }
 }

@@ -129,7 +129,7 @@ fn refused_record(s: Settings, i: u32, workers: &[u32]) -> u32
     ensures { λ r. ⌜ r ≡ sixSeven 3 s (load 3 (now (workers .entry)) i) ⌝ }
 {
     let h = Head::load(workers, i);
-    six_or_seven(fits(s, workers, i), is_idle(h))
+    six_or_seven(fits(s, h, workers, i), is_idle(h))
 }
 
 // Questions 1 to 7, which a start asks.
@@ -202,7 +202,8 @@ fn refused_last(s: Settings, i: u32, nodes: &[u32], levels: &[u32], workers: &[u
 {
     let q = refused_worker(s, i, nodes, levels, workers);
     if q == 0 {
-        if fits(s, workers, i) { 0 } else { 6 }
+        let h = Head::load(workers, i);
+        if fits(s, h, workers, i) { 0 } else { 6 }
     } else {
         q
     }

@@ -1,9 +1,6 @@
--- What ties the code's cut of one turn and of a list of turns to their definitions.
+-- What ties the code's cut of one turn to its definition.
 -- Relies on rules.
 pub mod Finish
 pub mod OneCut
-pub mod Kept
-pub mod Three
-pub mod ListCut
 pub mod Ways
 pub mod Moves

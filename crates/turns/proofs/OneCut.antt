@@ -24,7 +24,7 @@ use Rattle.rules.specs.Asked.{readsBy, question4, question6, question7, questio
 use Rattle.rules.specs.Operations.{Result, result, reply, refused, unlessRefused, question2Of, recordOf, memoryOf, taken, full, fullRecord, turn, turnQuestions}
 use Rattle.steps.specs.Tried.{Tried, tried, unlessSix, unlessNine}
 use Rattle.table.specs.Cut.{firstFour}
-use Rattle.turns.specs.Cut.{triedOf, finished, turnFitting, turnHere}
+use Rattle.turns.specs.Cut.{triedOf, finished, turnHere}
 
 idle-kind : (k : Kind) → kindNo k ≡ 0 → k ≡ Idle
 unfolding kindNo
@@ -67,7 +67,7 @@ cut true true true true true false true false w s i a h = refl
 pub turn-cut : (w : ℕ) (s : Settings) (i : ℕ) (a : Areas)
     → pick (eqb (firstFour w s i (length (a .nodes)) (length (a .levels)) (length (a .workers))) 0) (turnHere w s i a) (refused (firstFour w s i (length (a .nodes)) (length (a .levels)) (length (a .workers))) s a)
     ≡ turn w s i a
-unfolding turn turnQuestions turnHere turnFitting triedOf act firstFour firstThree question6 question8
+unfolding turn turnQuestions turnHere triedOf act firstFour firstThree question6 question8
 turn-cut w s i a =
     cut (question1 s) (question2Of w s a) (question3 w s) (question4 s i) (fits w s (recordOf w a i)) (question7 (recordOf w a i))
     (readsBy (recordOf w a i .head .kind) w s (recordOf w a i .head) (recordOf w a i .moves) (memoryOf a)) (question9 s (recordOf w a i)) w s i a

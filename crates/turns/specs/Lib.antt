@@ -1,3 +1,3 @@
--- The code's own cut of a turn and of a list of turns; a reader need not believe it.
--- Relies on rules, steps and table.
+-- The code's own cut of a turn; a reader need not believe it.
+-- Relies on rules and steps.
 pub mod Cut

@@ -1,6 +1,8 @@
 // A model of the table coded apart, from document 01 and docs/LAYOUT.md. Nodes and levels are records of any 32-bit values; a worker is a type of
 // its own, read from its words before an operation and written back after it. Nothing here is taken from the Rattle code.
 
+use crate::pair::Op;
+
 pub const NONE: u32 = u32::MAX;
 const MAX_PIXEL: u32 = (1 << 24) - 1;
 
@@ -42,7 +44,7 @@ pub struct Level {
     pub entries: [u32; 8],
 }
 
-// The three areas; `rest` are words past the last whole node, level or worker.
+// The three areas as they are lent, excess words included.
 #[derive(Clone, Debug, PartialEq, Eq)]
 pub struct Areas {
     pub nodes: Vec<u32>,
@@ -51,6 +53,12 @@ pub struct Areas {
 }
 
 impl Areas {
+    // a copy that keeps this one's allocations
+    pub fn copy(&mut self, from: &Areas) {
+        self.nodes.clone_from(&from.nodes);
+        self.levels.clone_from(&from.levels);
+        self.workers.clone_from(&from.workers);
+    }
     fn node(&self, i: u32) -> Node {
         let k = 2 * i as usize;
         Node { pixel: self.nodes[k], next: self.nodes[k + 1] }
@@ -157,13 +165,11 @@ pub struct Worker {
     pub moves: Vec<Chain>,
 }
 
-// What was seen, for coverage: kinds carried out, exchanges that failed by kind, Moves open, numbers given, and 6 by kind.
+// What was seen, for coverage: turns by their kind and the one after it, Moves open, and 6 by kind (23: the record does not fit).
 #[derive(Clone, Debug, Default)]
 pub struct Seen {
-    pub kinds: [u64; 23],
-    pub failed: [u64; 23],
+    pub went: [[u64; 23]; 23],
     pub nested: [u64; 8],
-    pub numbers: [u64; 10],
     pub sixes: [u64; 24],
 }
 
@@ -192,9 +198,18 @@ impl Model {
         Reply { number, answer, node, turns, settings: self.settings }
     }
 
-    fn refuse(&mut self, number: u32) -> Reply {
-        self.seen.numbers[number as usize] += 1;
+    fn refuse(&self, number: u32) -> Reply {
         self.reply(number, NOTHING, 0, 0)
+    }
+
+    pub fn run(&mut self, op: &Op) -> Reply {
+        match op {
+            Op::Open => self.open(),
+            Op::Start(i, row, column) => self.start(*i, *row, *column),
+            Op::Turn(i) => self.turn(*i),
+            Op::Turns(list, limit) => self.turns(list, *limit),
+            Op::Last(i) => self.last(*i),
+        }
     }
 
     // questions 1 and 2
@@ -280,18 +295,7 @@ impl Model {
 
     fn keep(&mut self, i: u32, r: &Worker) {
         let w = &mut self.areas.workers[128 * i as usize..128 * i as usize + 128];
-        let head = [
-            r.kind as u32,
-            r.pixel,
-            r.level,
-            r.node,
-            r.count,
-            r.held_node,
-            r.held_level,
-            r.answer,
-            r.answer_node,
-            r.moves.len() as u32,
-        ];
+        let head = [r.kind as u32, r.pixel, r.level, r.node, r.count, r.held_node, r.held_level, r.answer, r.answer_node, r.moves.len() as u32];
         w[..10].copy_from_slice(&head);
         for (j, m) in r.moves.iter().enumerate() {
             let at = 16 + 11 * j;
@@ -372,12 +376,11 @@ impl Model {
         let kind = r.kind;
         match self.act(r) {
             Err(9) => {
-                self.seen.numbers[9] += 1;
+                self.seen.went[kind as usize][0] += 1;
                 let mut r = self.worker(i).unwrap();
                 r.kind = Kind::Idle;
                 r.answer = FULL;
                 r.answer_node = 0;
-                r.moves.clear();
                 self.keep(i, &r);
                 self.reply(9, FULL, 0, 0)
             }
@@ -386,7 +389,7 @@ impl Model {
                 self.refuse(n)
             }
             Ok((r, answer, node)) => {
-                self.seen.kinds[kind as usize] += 1;
+                self.seen.went[kind as usize][r.kind as usize] += 1;
                 self.seen.nested[r.moves.len()] += 1;
                 self.keep(i, &r);
                 self.reply(0, answer, node, 0)
@@ -426,12 +429,11 @@ impl Model {
         yes(word >= 1 && word <= taken)?;
         Ok(word - 1)
     }
-    // where pixel p goes in level g, which is taken and not too deep
+    // where pixel p, which is in range, goes in level g, which is taken and not too deep
     fn entry(&self, g: u32, p: u32) -> Asked<usize> {
         self.level_taken(g)?;
         let d = self.areas.level(g).depth;
         yes(d <= 7)?;
-        yes(p <= MAX_PIXEL)?;
         Ok((p >> (3 * (7 - d)) & 7) as usize)
     }
     fn taken(&self, word: u32) -> Asked<Ref> {
@@ -497,15 +499,6 @@ impl Model {
         self.areas.set_node(n, Node { pixel: r.pixel, next: 2 * r.level });
         r.held_node = n + 1;
         Ok(())
-    }
-
-    // exchange a word from the level's reference
-    fn exchange(&mut self, kind: Kind, word: u32, level: u32) -> bool {
-        let done = word as u64 == 2 * level as u64;
-        if !done {
-            self.seen.failed[kind as usize] += 1;
-        }
-        done
     }
 
     fn met(&self, mut r: Worker, word: u32, count: u32, down: impl Fn(&Model, u32) -> Asked<u32>) -> Asked<(Worker, u32, u32)> {
@@ -590,7 +583,7 @@ impl Model {
                 let e = self.entry(r.level, r.pixel)?;
                 let n = self.held(r.held_node, self.settings.nodes_taken)?;
                 let mut l = self.areas.level(r.level);
-                if self.exchange(kind, l.entries[e], r.level) {
+                if l.entries[e] == 2 * r.level {
                     l.entries[e] = 2 * n + 1;
                     self.areas.set_level(r.level, l);
                     return Ok((Self::ended(r, n), NEW, n));
@@ -602,7 +595,7 @@ impl Model {
                 self.node_taken(r.node)?;
                 let n = self.held(r.held_node, self.settings.nodes_taken)?;
                 let mut x = self.areas.node(r.node);
-                if self.exchange(kind, x.next, r.level) {
+                if x.next == 2 * r.level {
                     x.next = 2 * n + 1;
                     self.areas.set_node(r.node, x);
                     return Ok((Self::ended(r, n), NEW, n));
@@ -648,9 +641,9 @@ impl Model {
                 self.node_taken(r.node)?;
                 let g = self.held(r.held_level, self.settings.levels_taken)?;
                 let mut x = self.areas.node(r.node);
-                let would = x.next == 2 * r.level;
-                yes(!(would && r.moves.len() == 7))?;
-                if self.exchange(kind, x.next, r.level) {
+                let done = x.next == 2 * r.level;
+                yes(!(done && r.moves.len() == 7))?;
+                if done {
                     x.next = 2 * g;
                     self.areas.set_node(r.node, x);
                     r.held_level = 0;
@@ -688,7 +681,7 @@ impl Model {
                 let mut l = self.areas.level(r.level);
                 let word = l.entries[e];
                 if kind == SetPut {
-                    if self.exchange(kind, word, r.level) {
+                    if word == 2 * r.level {
                         l.entries[e] = 2 * n + 1;
                         self.areas.set_level(r.level, l);
                         r.moves.last_mut().unwrap().count -= 1;
@@ -719,7 +712,7 @@ impl Model {
                 self.level_taken(r.level)?;
                 self.node_taken(r.node)?;
                 let mut x = self.areas.node(r.node);
-                if self.exchange(kind, x.next, r.level) {
+                if x.next == 2 * r.level {
                     x.next = 2 * n + 1;
                     self.areas.set_node(r.node, x);
                     r.moves.last_mut().unwrap().count -= 1;

@@ -1,5 +1,7 @@
-// The table under test: the static library's functions, as include/leafdrum.h declares them. Nothing checks these declarations against the Rattle source.
+// The table under test: the static library's functions, as include/leafdrum.h declares them. Nothing checks these declarations against the Rattle
+// source.
 use crate::model::{Areas, Reply, Settings};
+use crate::pair::Op;
 
 #[repr(C)]
 #[derive(Clone, Copy)]
@@ -25,7 +27,18 @@ extern "C" {
     fn leafdrum_open(s: CSettings, n: *mut u32, nl: usize, l: *mut u32, ll: usize, w: *mut u32, wl: usize) -> CReply;
     fn leafdrum_start(s: CSettings, i: u32, row: u32, column: u32, n: *mut u32, nl: usize, l: *mut u32, ll: usize, w: *mut u32, wl: usize) -> CReply;
     fn leafdrum_turn(s: CSettings, i: u32, n: *mut u32, nl: usize, l: *mut u32, ll: usize, w: *mut u32, wl: usize) -> CReply;
-    fn leafdrum_turns(s: CSettings, list: *const u8, count: usize, limit: u32, n: *mut u32, nl: usize, l: *mut u32, ll: usize, w: *mut u32, wl: usize) -> CReply;
+    fn leafdrum_turns(
+        s: CSettings,
+        list: *const u8,
+        count: usize,
+        limit: u32,
+        n: *mut u32,
+        nl: usize,
+        l: *mut u32,
+        ll: usize,
+        w: *mut u32,
+        wl: usize,
+    ) -> CReply;
     fn leafdrum_last(s: CSettings, i: u32, n: *mut u32, nl: usize, l: *mut u32, ll: usize, w: *mut u32, wl: usize) -> CReply;
     fn leafdrum_level_count(s: CSettings) -> u32;
 }
@@ -58,20 +71,16 @@ impl Table {
         self.settings = r.settings;
         r
     }
-    pub fn open(&mut self) -> Reply {
-        self.call(|s, n, nl, l, ll, w, wl| unsafe { leafdrum_open(s, n, nl, l, ll, w, wl) })
-    }
-    pub fn start(&mut self, i: u32, row: u32, column: u32) -> Reply {
-        self.call(|s, n, nl, l, ll, w, wl| unsafe { leafdrum_start(s, i, row, column, n, nl, l, ll, w, wl) })
-    }
-    pub fn turn(&mut self, i: u32) -> Reply {
-        self.call(|s, n, nl, l, ll, w, wl| unsafe { leafdrum_turn(s, i, n, nl, l, ll, w, wl) })
-    }
-    pub fn turns(&mut self, list: &[u8], limit: u32) -> Reply {
-        self.call(|s, n, nl, l, ll, w, wl| unsafe { leafdrum_turns(s, list.as_ptr(), list.len(), limit, n, nl, l, ll, w, wl) })
-    }
-    pub fn last(&mut self, i: u32) -> Reply {
-        self.call(|s, n, nl, l, ll, w, wl| unsafe { leafdrum_last(s, i, n, nl, l, ll, w, wl) })
+    pub fn run(&mut self, op: &Op) -> Reply {
+        self.call(|s, n, nl, l, ll, w, wl| unsafe {
+            match op {
+                Op::Open => leafdrum_open(s, n, nl, l, ll, w, wl),
+                Op::Start(i, row, column) => leafdrum_start(s, *i, *row, *column, n, nl, l, ll, w, wl),
+                Op::Turn(i) => leafdrum_turn(s, *i, n, nl, l, ll, w, wl),
+                Op::Turns(list, limit) => leafdrum_turns(s, list.as_ptr(), list.len(), *limit, n, nl, l, ll, w, wl),
+                Op::Last(i) => leafdrum_last(s, *i, n, nl, l, ll, w, wl),
+            }
+        })
     }
 }
 

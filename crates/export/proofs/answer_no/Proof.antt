@@ -4,50 +4,38 @@ use Rattle.record.specs.Kinds.{answerNo, answerNode}
 use borrow.Author.Needs.{needs}
 use Rattle.export.proofs.answer_no.Statement.{statement}
 use Rattle.export.proofs.answer_no.Tie as tie
-use Rattle.export.proofs.answer_no.Reads as reads
-use Rattle.export.proofs.answer_no.Lts as lts
 
--- src/lib.rt:28:28
 enum-told : tie.Need-enum-told
 enum-told c = search needs
 
--- src/lib.rt:29:27
 enum-told-2 : tie.Need-enum-told-2
 enum-told-2 c = search needs
 
--- src/lib.rt:30:29
 enum-told-3 : tie.Need-enum-told-3
 enum-told-3 c = search needs
 
--- src/lib.rt:31:25
 enum-told-4 : tie.Need-enum-told-4
 enum-told-4 c = search needs
 
--- src/lib.rt:32:25
 enum-told-5 : tie.Need-enum-told-5
 enum-told-5 c = search needs
 
--- src/lib.rt:24:1
 returns : tie.Need-returns
 unfolding answerNo
 returns c = search needs
 
--- src/lib.rt:24:1
 returns-2 : tie.Need-returns-2
 unfolding answerNo
 returns-2 c = search needs
 
--- src/lib.rt:24:1
 returns-3 : tie.Need-returns-3
 unfolding answerNo
 returns-3 c = search needs
 
--- src/lib.rt:24:1
 returns-4 : tie.Need-returns-4
 unfolding answerNo
 returns-4 c = search needs
 
--- src/lib.rt:24:1
 returns-5 : tie.Need-returns-5
 unfolding answerNo
 returns-5 c = search needs

@@ -4,50 +4,38 @@ use Rattle.record.specs.Kinds.{answerNo, answerNode}
 use borrow.Author.Needs.{needs}
 use Rattle.export.proofs.answer_node.Statement.{statement}
 use Rattle.export.proofs.answer_node.Tie as tie
-use Rattle.export.proofs.answer_node.Reads as reads
-use Rattle.export.proofs.answer_node.Lts as lts
 
--- src/lib.rt:40:28
 enum-told : tie.Need-enum-told
 enum-told c = search needs
 
--- src/lib.rt:41:21
 enum-known-a : tie.Need-enum-known-a
 enum-known-a c = search needs
 
--- src/lib.rt:42:23
 enum-known-a-2 : tie.Need-enum-known-a-2
 enum-known-a-2 c = search needs
 
--- src/lib.rt:43:25
 enum-told-2 : tie.Need-enum-told-2
 enum-told-2 c = search needs
 
--- src/lib.rt:44:25
 enum-told-3 : tie.Need-enum-told-3
 enum-told-3 c = search needs
 
--- src/lib.rt:36:1
 returns : tie.Need-returns
 unfolding answerNode
 returns c = search needs
 
--- src/lib.rt:36:1
 returns-2 : tie.Need-returns-2
 unfolding answerNode
 returns-2 c = search needs
 
--- src/lib.rt:36:1
 returns-3 : tie.Need-returns-3
 unfolding answerNode
 returns-3 c = search needs
 
--- src/lib.rt:36:1
 returns-4 : tie.Need-returns-4
 unfolding answerNode
 returns-4 c = search needs
 
--- src/lib.rt:36:1
 returns-5 : tie.Need-returns-5
 unfolding answerNode
 returns-5 c = search needs

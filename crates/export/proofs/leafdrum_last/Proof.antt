@@ -4,32 +4,22 @@ use Rattle.export.proofs.Exported.{export-steps}
 use borrow.Author.Needs.{needs}
 use Rattle.export.proofs.leafdrum_last.Statement.{statement}
 use Rattle.export.proofs.leafdrum_last.Tie as tie
-use Rattle.export.proofs.leafdrum_last.Reads as reads
-use Rattle.export.proofs.leafdrum_last.Lts as lts
-use Rattle.export.proofs.numbers.Reads as numbers-reads
-use Rattle.table.proofs.last_answer.Reads as last-answer-reads
 
--- src/lib.rt:94:13
 last-answer-requires : tie.Need-last-answer-requires
 last-answer-requires c κs = search needs
 
--- src/lib.rt:94:5
 numbers-requires : tie.Need-numbers-requires
 numbers-requires c κs = search needs
 
--- src/lib.rt:90:1
 same-length : tie.Need-same-length
 same-length c = search needs
 
--- src/lib.rt:90:1
 same-length-2 : tie.Need-same-length-2
 same-length-2 c = search needs
 
--- src/lib.rt:90:1
 same-length-3 : tie.Need-same-length-3
 same-length-3 c = search needs
 
--- src/lib.rt:90:1
 returns : tie.Need-returns
 returns c = search (needs, export-steps)
 

@@ -6,24 +6,16 @@ use Rattle.export.proofs.Exported.{count-in, count-out}
 use borrow.Author.Needs.{needs}
 use Rattle.export.proofs.leafdrum_level_count.Statement.{statement}
 use Rattle.export.proofs.leafdrum_level_count.Tie as tie
-use Rattle.export.proofs.leafdrum_level_count.Reads as reads
-use Rattle.export.proofs.leafdrum_level_count.Lts as lts
-use Rattle.settings.proofs.Settings.in_range.Reads as in-range-reads
-use Rattle.settings.proofs.Settings.level_count.Reads as level-count-reads
 
--- src/lib.rt:102:8
 in-range-requires : tie.Need-in-range-requires
 in-range-requires c κs = search needs
 
--- src/lib.rt:103:9
 level-count-requires : tie.Need-level-count-requires
 level-count-requires c κs = search (needs, via, ranges, count-in, count-out)
 
--- src/lib.rt:98:1
 returns : tie.Need-returns
 returns c = search (needs, via, ranges, count-in, count-out)
 
--- src/lib.rt:98:1
 returns-2 : tie.Need-returns-2
 returns-2 c = search (needs, via, ranges, count-in, count-out)
 

@@ -4,20 +4,13 @@ use Rattle.export.proofs.Exported.{numbers-steps}
 use borrow.Author.Needs.{needs}
 use Rattle.export.proofs.numbers.Statement.{statement}
 use Rattle.export.proofs.numbers.Tie as tie
-use Rattle.export.proofs.numbers.Reads as reads
-use Rattle.export.proofs.numbers.Lts as lts
-use Rattle.export.proofs.answer_no.Reads as answer-no-reads
-use Rattle.export.proofs.answer_node.Reads as answer-node-reads
 
--- src/lib.rt:55:17
 answer-no-requires : tie.Need-answer-no-requires
 answer-no-requires c κs = search needs
 
--- src/lib.rt:56:15
 answer-node-requires : tie.Need-answer-node-requires
 answer-node-requires c κs = search needs
 
--- src/lib.rt:48:1
 returns : tie.Need-returns
 returns c = search (needs, numbers-steps)
 

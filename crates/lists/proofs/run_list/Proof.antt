@@ -1,0 +1,106 @@
+-- `lists::run_list` meets its contract.
+-- Relies on the ways through a list of turns.
+use Prim.Native.Nat.{_≤_, _<_, _-_}
+use mathlib.Core.Path.{_≡_}
+use mathlib.Core.Bool.{true}
+use lib.Dec.{ltb}
+use lib.ListN.{length, drop}
+use Rattle.words.specs.Choice.{every}
+use Rattle.areas.specs.Memory.{areas}
+use Rattle.rules.specs.Lists.{state}
+use Rattle.lists.specs.Cut.{run, counted, ranOf, ranList}
+use Rattle.lists.proofs.Three.{Three}
+use Rattle.lists.proofs.Ways.{begin-three, begin-list, of-three, entry-below, entry-keeps, list-more, list-all, list-over}
+use borrow.Author.Needs.{needs}
+use Rattle.lists.proofs.run_list.Statement.{statement}
+use Rattle.lists.proofs.run_list.Tie as tie
+
+abbrev Inv-loop : tie.InvT-loop
+Inv-loop s list limit nodes₀ levels₀ workers₀ t₀ k₀ nodes levels workers t k =
+    (k ≤ length list)
+    × (length nodes ≡ length nodes₀)
+    × (length levels ≡ length levels₀)
+    × (length workers ≡ length workers₀)
+    × (every (λ i. ltb i (s .workers)) list ≡ true)
+    × Three 3 (s .workers) (state (counted s t) (areas nodes levels workers))
+    × (ranList 3 (drop k list) (ranOf s t (areas nodes levels workers)) ≡ ranList 3 list (run 0 (state s (areas nodes₀ levels₀ workers₀)) limit))
+
+abbrev μ-loop : tie.MeasureT-loop
+μ-loop s list limit nodes₀ levels₀ workers₀ t₀ k₀ nodes levels workers t k = length list - k
+
+loop-holds : tie.Need-loop-holds Inv-loop μ-loop
+loop-holds c = search (needs, begin-three, begin-list)
+
+is-over-requires : tie.Need-is-over-requires Inv-loop μ-loop
+is-over-requires c κs = search needs
+
+same-length : tie.Need-same-length Inv-loop μ-loop
+same-length c = search needs
+
+same-length-2 : tie.Need-same-length-2 Inv-loop μ-loop
+same-length-2 c = search needs
+
+same-length-3 : tie.Need-same-length-3 Inv-loop μ-loop
+same-length-3 c = search needs
+
+returns : tie.Need-returns Inv-loop μ-loop
+returns c = search (needs, list-over)
+
+shared-slice-read-wide : tie.Need-shared-slice-read-wide Inv-loop μ-loop
+shared-slice-read-wide c = search needs
+
+wide-requires : tie.Need-wide-requires Inv-loop μ-loop
+wide-requires c κs = search needs
+
+entry-requires : tie.Need-entry-requires Inv-loop μ-loop
+entry-requires c κs = let w = c .before .before .before in
+    let d = w .before .before .before .before in
+    let v = d .before .loop .inv in
+    (of-three 3 _ _ _ _ (v .5), entry-below _ _ (v .4) (w .wide .ensures) (d .loop-test .taken))
+
+add-k : tie.Need-add-k Inv-loop μ-loop
+add-k c = search needs
+
+loop-less : tie.Need-loop-less Inv-loop μ-loop
+loop-less c = search needs
+
+loop-again : tie.Need-loop-again Inv-loop μ-loop
+loop-again c = let b = c .before .before .before .before .before .before in
+    let w = b .before .before .before .before in
+    let d = w .before .before .before .before in
+    (search needs, search needs, search needs, search needs, search needs, entry-keeps 3 _ _ _ _ _ _ (b .entry .ensures) (d .before .loop .inv .5), list-more 3 _ _ _ (b .entry .ensures) (w .wide .ensures) (d .before .loop .inv .6) (d .loop-test .taken))
+
+same-length-4 : tie.Need-same-length-4 Inv-loop μ-loop
+same-length-4 c = search needs
+
+same-length-5 : tie.Need-same-length-5 Inv-loop μ-loop
+same-length-5 c = search needs
+
+same-length-6 : tie.Need-same-length-6 Inv-loop μ-loop
+same-length-6 c = search needs
+
+returns-2 : tie.Need-returns-2 Inv-loop μ-loop
+returns-2 c = search (needs, list-all)
+
+pub run-list-spec : {M : Type 1} → statement M
+run-list-spec =
+    tie.close
+    (tie.spec
+    Inv-loop
+    μ-loop
+    loop-holds
+    is-over-requires
+    same-length
+    same-length-2
+    same-length-3
+    returns
+    shared-slice-read-wide
+    wide-requires
+    entry-requires
+    add-k
+    loop-less
+    loop-again
+    same-length-4
+    same-length-5
+    same-length-6
+    returns-2)

@@ -1,0 +1,3 @@
+-- The code's own cut of a list of turns; a reader need not believe it.
+-- Relies on rules.
+pub mod Cut

@@ -1,0 +1,193 @@
+// A list of turns with a limit: a public operation with no `requires`, whose contract is one equation.
+// Relies on turns for the turn of a worker, on settings for questions 1 to 3, which are asked once a list.
+ghost use mathlib.Core.Path.{_≡_};
+ghost use mathlib.Core.Bool.{true};
+ghost use Prim.Native.Nat.{_-_, _≤_, _<_};
+ghost use lib.Dec.{ltb};
+ghost use lib.ListN.{length};
+ghost use Rattle.words.specs.Choice.{every};
+ghost use Rattle.settings.specs.Sizes.{firstThree};
+ghost use Rattle.areas.specs.Memory.{areas};
+ghost use Rattle.rules.specs.Operations.{result, reply};
+ghost use Rattle.rules.specs.Lists.{state, turns};
+ghost use Rattle.lists.specs.Cut.{run, counted, ranOf, talliedOf, overOf, ranEntry, ranList};
+use record::Answer;
+use record::Reply;
+use settings::Settings;
+use table::refusal;
+use turns::turn_here;
+
+// Where a list of turns stands: 0 or 6, nodes taken, levels taken, and the turns that may still be done. A turn changes no other setting.
+pub struct Tally {
+    pub number: u32,
+    pub nodes_taken: u32,
+    pub levels_taken: u32,
+    pub left: u32,
+}
+
+// The list's settings with the counts that it has come to.
+fn with_counts(s: Settings, t: Tally) -> Settings
+    ensures { λ r. ⌜ r ≡ counted s t ⌝ }
+{
+    let mut n = s;
+    n.nodes_taken = t.nodes_taken;
+    n.levels_taken = t.levels_taken;
+    n
+}
+
+// The tally after an entry's turn: ended by a 6, passed over where the worker is idle, else one turn less is left.
+fn tallied(t: Tally, r: Reply) -> Tally
+    requires { ⌜ 1 ≤ t .left ⌝ }
+    ensures { λ u. ⌜ u ≡ talliedOf t r ⌝ }
+{
+    let n = r.number;
+    if n == 8 {
+        return t;
+    }
+    if n == 6 {
+        return Tally {
+            number: 6,
+            nodes_taken: t.nodes_taken,
+            levels_taken: t.levels_taken,
+            left: t.left,
+        };
+    }
+    let s = r.settings;
+    Tally {
+        number: 0,
+        nodes_taken: s.nodes_taken,
+        levels_taken: s.levels_taken,
+        left: t.left - 1,
+    }
+}
+
+// One entry of a list of turns.
+fn entry(
+    s: Settings,
+    t: Tally,
+    i: u32,
+    nodes: &mut [u32],
+    levels: &mut [u32],
+    workers: &mut [u32],
+) -> Tally
+    requires { ⌜ firstThree 3 (counted s t) (length (now nodes)) (length (now levels)) (length (now workers)) ≡ 0 ⌝ }
+    requires { ⌜ i < s .workers ⌝ }
+    ensures { λ u. ⌜ ranOf s u (areas (now (nodes .exit)) (now (levels .exit)) (now (workers .exit))) ≡ ranEntry 3 (ranOf s t (areas (now (nodes .entry)) (now (levels .entry)) (now (workers .entry)))) i ⌝ }
+{
+    if t.left == 0 {
+        return t;
+    }
+    if t.number == 0 {
+        let n = with_counts(s, t);
+        let r = turn_here(n, i, nodes, levels, workers);
+        tallied(t, r)
+    } else {
+        t
+    }
+}
+
+// Whether a list of turns goes no further: its limit is used up, or a 6 was met.
+fn is_over(t: Tally) -> bool
+    ensures { λ r. ⌜ r ≡ overOf t ⌝ }
+{
+    if t.left == 0 {
+        return true;
+    }
+    if t.number == 0 { false } else { true }
+}
+
+// A byte as a number of 32 bits.
+fn wide(x: u8) -> u32
+    ensures { λ r. ⌜ r ≡ x ⌝ }
+{
+    x as u32
+}
+
+// Every entry of a list is below n: question 4 of a list of turns.
+fn all_below(list: &[u8], n: u32) -> bool
+    ensures { λ r. ⌜ r ≡ every (λ i. ltb i n) (now (list .entry)) ⌝ }
+{
+    let mut k = 0;
+    while k < list.len() {
+        if wide(list[k]) < n {
+            k += 1;
+        } else {
+            return false;
+        }
+    }
+    true
+}
+
+// The entries of a list, one after the other, until its limit is used up or a 6 is met.
+fn run_list(
+    s: Settings,
+    list: &[u8],
+    limit: u32,
+    nodes: &mut [u32],
+    levels: &mut [u32],
+    workers: &mut [u32],
+) -> Tally
+    requires { ⌜ firstThree 3 s (length (now nodes)) (length (now levels)) (length (now workers)) ≡ 0 ⌝ }
+    requires { ⌜ every (λ i. ltb i (s .workers)) (now list) ≡ true ⌝ }
+    ensures { λ u. ⌜ ranOf s u (areas (now (nodes .exit)) (now (levels .exit)) (now (workers .exit))) ≡ ranList 3 (now (list .entry)) (run 0 (state s (areas (now (nodes .entry)) (now (levels .entry)) (now (workers .entry)))) limit) ⌝ }
+{
+    let mut t = Tally {
+        number: 0,
+        nodes_taken: s.nodes_taken,
+        levels_taken: s.levels_taken,
+        left: limit,
+    };
+    let mut k = 0;
+    while k < list.len() {
+        if is_over(t) {
+            return t;
+        }
+        let i = wide(list[k]);
+        t = entry(s, t, i, nodes, levels, workers);
+        k += 1;
+    }
+    t
+}
+
+// One number less another, and 0 where the other is greater.
+fn less(n: u32, k: u32) -> u32
+    ensures { λ r. ⌜ r ≡ n - k ⌝ }
+{
+    if k <= n { n - k } else { 0 }
+}
+
+// What a list of turns gives at its end: the turns done are those that the limit has been counted down by.
+fn ended_list(s: Settings, t: Tally, limit: u32) -> Reply
+    ensures { λ r. ⌜ r ≡ reply (t .number) Answer.Nothing (limit - t .left) (counted s t) ⌝ }
+{
+    Reply {
+        number: t.number,
+        answer: Answer::Nothing,
+        turns: less(limit, t.left),
+        settings: with_counts(s, t),
+    }
+}
+
+// A list of turns with its limit: one byte an entry, its worker.
+pub fn turns(
+    s: Settings,
+    list: &[u8],
+    limit: u32,
+    nodes: &mut [u32],
+    levels: &mut [u32],
+    workers: &mut [u32],
+) -> Reply
+    ensures { λ r. ⌜ result r (areas (now (nodes .exit)) (now (levels .exit)) (now (workers .exit))) ≡ turns 3 s (now (list .entry)) limit (areas (now (nodes .entry)) (now (levels .entry)) (now (workers .entry))) ⌝ }
+{
+    let q = s.refused(nodes.len(), levels.len(), workers.len());
+    if q == 0 {
+        if all_below(list, s.workers) {
+            let t = run_list(s, list, limit, nodes, levels, workers);
+            ended_list(s, t, limit)
+        } else {
+            refusal(4, s)
+        }
+    } else {
+        refusal(q, s)
+    }
+}

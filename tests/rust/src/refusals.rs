@@ -1,0 +1,266 @@
+// Each question's number just inside and just outside its case, for each operation that asks it; their order; lists with every limit.
+// That a refusal changes nothing is checked after every operation (pair.rs). Question 6 has its own tests (six.rs).
+use crate::coverage::Total;
+use crate::model::{self, Areas, FULL, NEW};
+use crate::pair::{Compared, Op, Pair};
+use crate::random::Random;
+use crate::sequences::{opened, settings, sized, whole};
+use crate::words::{Place, ANSWER, HELD_NODE, KIND, LEVEL, RECORD};
+
+pub fn all(seed: u64, total: &mut Total) -> Compared<()> {
+    question_1(total)?;
+    question_2(total)?;
+    question_3(total)?;
+    question_4(total)?;
+    questions_5_7_8(total)?;
+    question_9(total)?;
+    order(total)?;
+    lists(seed, total)
+}
+
+// one of each operation, in an order in which a fresh table carries all of them out
+fn each() -> [Op; 5] {
+    [Op::Open, Op::Start(0, 0, 0), Op::Turn(0), Op::Turns(vec![0], 1), Op::Last(0)]
+}
+
+fn gives(p: &mut Pair, op: Op, number: u32) -> Compared<()> {
+    let got = p.run(op.clone())?.number;
+    assert_eq!(got, number, "{}: {op:?}, {:?}", p.what, p.table.settings);
+    Ok(())
+}
+
+fn question_1(total: &mut Total) -> Compared<()> {
+    let inside = [(1, 1, 1), (16, 1, 1), (1, 8, 1), (1, 1, 4096), (16, 8, 4096), (16, 1, 4096)];
+    let outside = [(0, 1, 1), (17, 1, 1), (u32::MAX, 1, 1), (1, 0, 1), (1, 9, 1), (1, u32::MAX, 1), (1, 1, 0), (1, 1, 4097), (1, 1, u32::MAX)];
+    let enough = sized(&settings(17, 1, 4097), 0, 1);
+    for (sizes, number) in inside.map(|x| (x, 0)).into_iter().chain(outside.map(|x| (x, 1))) {
+        let mut p = total.pair(settings(sizes.0, sizes.1, sizes.2), enough.clone(), "question 1");
+        for op in each() {
+            gives(&mut p, op, number)?;
+        }
+        total.add(&p);
+    }
+    Ok(())
+}
+
+fn area(a: &mut Areas, which: usize) -> &mut Vec<u32> {
+    match which {
+        0 => &mut a.nodes,
+        1 => &mut a.levels,
+        _ => &mut a.workers,
+    }
+}
+
+// each area empty, short by one word, exact, and longer
+fn question_2(total: &mut Total) -> Compared<()> {
+    const EXCESS: u32 = 0xabcd;
+    let s = settings(3, 2, 5);
+    for which in 0..3 {
+        let exact = [10, 180, 384][which];
+        for (words, number) in [(0, 2), (exact - 1, 2), (exact, 0), (exact + 1, 0), (exact + 200, 0)] {
+            let mut p = opened(total, s, 0, 4, "question 2")?;
+            assert_eq!(area(&mut p.table.areas, which).len(), exact);
+            for a in [&mut p.table.areas, &mut p.model.areas] {
+                area(a, which).resize(words, EXCESS);
+            }
+            for op in each() {
+                gives(&mut p, op, number)?;
+            }
+            let excess = area(&mut p.table.areas, which).iter().skip(exact);
+            assert!(excess.eq(std::iter::repeat_n(&EXCESS, words.saturating_sub(exact))), "the excess is untouched");
+            total.add(&p);
+        }
+    }
+    Ok(())
+}
+
+fn question_3(total: &mut Total) -> Compared<()> {
+    // 1 + 7 × floor(5 / 2) + 3 levels
+    for (nodes, levels, number) in [(5, 1, 0), (6, 1, 3), (u32::MAX, 1, 3), (0, 0, 3), (0, 1, 0), (0, 18, 0), (0, 19, 3), (0, u32::MAX, 3)] {
+        let mut p = opened(total, settings(3, 2, 5), 3, 4, "question 3")?;
+        for x in [&mut p.table.settings, &mut p.model.settings] {
+            (x.nodes_taken, x.levels_taken) = (nodes, levels);
+        }
+        for op in each().into_iter().skip(1) {
+            gives(&mut p, op, number)?;
+        }
+        gives(&mut p, Op::Open, 0)?;
+        total.add(&p);
+    }
+    Ok(())
+}
+
+fn question_4(total: &mut Total) -> Compared<()> {
+    for workers in [1, 3, 16] {
+        let mut p = opened(total, settings(workers, 2, 5), 0, 4, "question 4")?;
+        for (i, number) in [(workers - 1, 0), (workers, 4), (u32::MAX, 4)] {
+            gives(&mut p, Op::Start(i, 0, 0), number)?;
+            gives(&mut p, Op::Turn(i), number)?;
+            gives(&mut p, Op::Last(i), number)?;
+        }
+        let (inside, outside) = (workers as u8 - 1, workers as u8);
+        for (list, number) in [
+            (vec![inside; 3], 0),
+            (vec![outside, inside, inside], 4),
+            (vec![inside, 255, inside], 4),
+            // entries never reached are asked too
+            (vec![inside, inside, outside], 4),
+        ] {
+            for limit in [0, 1, 3, 9] {
+                gives(&mut p, Op::Turns(list.clone(), limit), number)?;
+            }
+        }
+        total.add(&p);
+    }
+    Ok(())
+}
+
+fn questions_5_7_8(total: &mut Total) -> Compared<()> {
+    let mut p = opened(total, settings(3, 2, 5), 0, 4, "questions 5, 7 and 8")?;
+    for (row, column) in [(4096, 0), (0, 4096), (4096, 4095), (4095, 4096), (u32::MAX, 0), (0, u32::MAX)] {
+        gives(&mut p, Op::Start(0, row, column), 5)?;
+    }
+    for (i, row, column) in [(0, 4095, 4095), (1, 4095, 0), (2, 0, 4095)] {
+        gives(&mut p, Op::Turn(i), 8)?;
+        gives(&mut p, Op::Start(i, row, column), 0)?;
+        gives(&mut p, Op::Start(i, row, column), 7)?;
+        for _ in 0..3 {
+            gives(&mut p, Op::Start(i, 0, 0), 7)?;
+            gives(&mut p, Op::Turn(i), 0)?;
+        }
+    }
+    // worker 0's call has ended, worker 1 has met its node and goes on
+    gives(&mut p, Op::Turn(0), 8)?;
+    gives(&mut p, Op::Start(0, 0, 0), 0)?;
+    gives(&mut p, Op::Start(1, 0, 0), 7)?;
+    total.add(&p);
+    Ok(())
+}
+
+// Take on turn 2 for (512,0), TakeTail on turn 4 for (1,1), node 0 having been placed at (0,0): a node left, none left but a spare, none at all.
+fn question_9(total: &mut Total) -> Compared<()> {
+    for (row, column, turn) in [(512, 0, 2), (1, 1, 4)] {
+        for (nodes, spare, number) in [(1, false, 9), (2, false, 0), (2, true, 0), (3, true, 0)] {
+            let mut p = opened(total, settings(2, 4, nodes), 0, 4, "question 9")?;
+            gives(&mut p, Op::Start(1, 0, 0), 0)?;
+            if spare {
+                // worker 1's Put fails
+                gives(&mut p, Op::Turns(vec![1, 1], 2), 0)?;
+            }
+            whole(&mut p, 0, 0)?;
+            gives(&mut p, Op::Turns(vec![1; 9], 9), 0)?;
+            assert_eq!(p.table.areas.workers[RECORD + HELD_NODE], if spare { 1 } else { 0 });
+            gives(&mut p, Op::Start(1, row, column), 0)?;
+            gives(&mut p, Op::Turns(vec![1; turn - 1], 9), 0)?;
+            // 6 is asked before 9: the level is not taken
+            p.put(Place::Workers(RECORD + LEVEL), 1);
+            gives(&mut p, Op::Turn(1), 6)?;
+            p.put(Place::Workers(RECORD + LEVEL), 0);
+            gives(&mut p, Op::Turn(1), number)?;
+            let (idle, answer) = if number == 9 { (8, FULL) } else { (0, NEW) };
+            gives(&mut p, Op::Turn(1), idle)?;
+            assert_eq!(p.run(Op::Last(1))?.answer, answer);
+            gives(&mut p, Op::Start(1, 0, 0), 0)?;
+            total.add(&p);
+        }
+    }
+    Ok(())
+}
+
+// All questions answered no at once, then the first `yes` of them yes: the number is that of the first no that the operation asks.
+fn order(total: &mut Total) -> Compared<()> {
+    for yes in 0..8 {
+        let i = if yes < 4 { 3 } else { 1 };
+        let row = if yes < 5 { 4096 } else { 0 };
+        let start = [1, 2, 3, 4, 5, 6, 7, 0][yes];
+        let turn = [1, 2, 3, 4, 6, 6, 0, 8][yes];
+        let list = [1, 2, 3, 4, 6, 6, 0, 0][yes];
+        let open = [1, 2, 0, 0, 0, 0, 0, 0][yes];
+        for (op, number) in
+            [(Op::Start(i, row, 0), start), (Op::Turn(i), turn), (Op::Turns(vec![0, i as u8], 9), list), (Op::Last(i), list), (Op::Open, open)]
+        {
+            // an idle worker's record that does not fit, and an open one's
+            for (word, v) in [(KIND, 23), (ANSWER, 4)] {
+                if word == ANSWER && yes >= 6 {
+                    continue;
+                }
+                let mut p = faulty(total, yes, word, v)?;
+                gives(&mut p, op.clone(), number)?;
+                total.add(&p);
+            }
+        }
+    }
+    Ok(())
+}
+
+fn faulty(total: &Total, yes: usize, word: usize, v: u32) -> Compared<Pair> {
+    let mut p = opened(total, settings(3, 2, 5), 0, 4, "the order of the questions")?;
+    if yes < 7 && word == KIND {
+        p.run(Op::Start(1, 0, 0))?;
+    }
+    if yes < 6 {
+        p.put(Place::Workers(RECORD + word), v);
+    }
+    for (a, s) in [(&mut p.table.areas, &mut p.table.settings), (&mut p.model.areas, &mut p.model.settings)] {
+        if yes < 3 {
+            s.nodes_taken = 6;
+        }
+        if yes < 2 {
+            a.nodes.pop();
+        }
+        if yes < 1 {
+            s.limit = 9;
+        }
+    }
+    Ok(p)
+}
+
+// Lists of turns with every limit beside single turns: the same table, number and turns done.
+fn lists(seed: u64, total: &mut Total) -> Compared<()> {
+    let r = &mut Random::new(seed);
+    let list: Vec<u8> = (0..60).map(|_| r.below(4) as u8).collect();
+    // nothing spoilt; the same with one node; the root's depth, from the tenth entry on; the record of worker 3, which is idle
+    let nothing: &[(Place, u32)] = &[];
+    let level: &[(Place, u32)] = &[(Place::Levels(1), 8)];
+    let record: &[(Place, u32)] = &[(Place::Workers(3 * RECORD + ANSWER), 4)];
+    let mut met = [0; 2];
+    for (nodes, limit, first, spoilt) in [(6, 1, 0, nothing), (1, 4, 0, nothing), (6, 1, 9, level), (6, 1, 0, record)] {
+        let s = settings(4, limit, nodes);
+        for turns in (0..=62).chain([u32::MAX]) {
+            let mut a = opened(total, s, 0, 5, "lists")?;
+            let mut b = opened(total, s, 0, 5, "lists, turn by turn")?;
+            for p in [&mut a, &mut b] {
+                for (i, pixel) in [(0, 0), (1, 7), (2, 7)] {
+                    p.run(Op::Start(i, 0, pixel))?;
+                }
+                p.run(Op::Turns(list[..first].to_vec(), 9))?;
+                for &(place, v) in spoilt {
+                    p.put(place, v);
+                }
+            }
+            let got = a.run(Op::Turns(list.clone(), turns))?;
+            let (number, done) = turn_by_turn(&mut b, &list, turns)?;
+            assert_eq!((got.number, got.answer, got.turns), (number, model::NOTHING, done), "limit {turns}");
+            assert!(a.table.areas == b.table.areas && got.settings == b.table.settings, "limit {turns}");
+            met[(number == 6) as usize] += 1;
+            total.add(&a);
+        }
+    }
+    assert!(met[0] > 128 && met[1] > 32, "lists that met 6 and lists that did not: {met:?}");
+    Ok(())
+}
+
+fn turn_by_turn(p: &mut Pair, list: &[u8], limit: u32) -> Compared<(u32, u32)> {
+    let mut done = 0;
+    for &i in list {
+        if done == limit {
+            break;
+        }
+        match p.run(Op::Turn(i as u32))?.number {
+            6 => return Ok((6, done)),
+            8 => {}
+            _ => done += 1,
+        }
+    }
+    Ok((0, done))
+}

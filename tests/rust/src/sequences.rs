@@ -1,0 +1,209 @@
+// Sequences of operations, random ones from a seed of their own: `leafdrum_tests NAME SEED` runs one again.
+use crate::coverage::Total;
+use crate::model::{self, Areas, Kind, Settings};
+use crate::pair::{Compared, Op, Pair};
+use crate::random::Random;
+use crate::words::{Place, COUNT, KIND, LEVEL, MOVES, NODE, RECORD};
+
+pub fn settings(workers: u32, limit: u32, nodes: u32) -> Settings {
+    Settings { workers, limit, nodes, nodes_taken: 0, levels_taken: 1 }
+}
+
+// areas with `more` words beyond those needed
+pub fn sized(s: &Settings, more: usize, fill: u32) -> Areas {
+    Areas {
+        nodes: vec![fill; 2 * s.nodes as usize + more],
+        levels: vec![fill; 10 * model::level_count(s) as usize + more],
+        workers: vec![fill; 128 * s.workers as usize + more],
+    }
+}
+
+pub fn opened(total: &Total, s: Settings, more: usize, fill: u32, what: &str) -> Compared<Pair> {
+    let mut p = total.pair(s, sized(&s, more, fill), what);
+    p.run(Op::Open)?;
+    Ok(p)
+}
+
+// Pixels that share long beginnings, so that chains close and Moves nest.
+fn clustered(r: &mut Random, spread: u64) -> (u32, u32) {
+    let base = r.pick(&[0u64, 0o7, 0o777, 0o12345670, 0o77777777, 0o40000000]);
+    let p = (base ^ r.below(1 << spread)) & 0xffffff;
+    ((p >> 12) as u32, (p & 4095) as u32)
+}
+
+// a turn of worker i, or a start if it is idle
+pub fn go_on(r: &mut Random, p: &mut Pair, i: u32, spread: u64) -> Compared<()> {
+    if p.run(Op::Turn(i))?.number == 8 {
+        let (row, column) = clustered(r, spread);
+        p.run(Op::Start(i, row, column))?;
+    }
+    Ok(())
+}
+
+fn some_list(r: &mut Random, workers: u32, longest: u64) -> Op {
+    let list = (0..r.below(longest + 1)).map(|_| r.below(workers as u64) as u8).collect();
+    Op::Turns(list, r.below(longest + 10) as u32)
+}
+
+pub fn orders(seed: u64, total: &mut Total) -> Compared<()> {
+    let r = &mut Random::new(seed);
+    let limit = r.pick(&[1, 1, 1, 2, 2, 3, 4, 5, 6, 7, 8]);
+    let s = settings(1 + r.below(16) as u32, limit, 1 + r.below(64) as u32);
+    let spread = r.pick(&[2, 3, 4, 6, 8, 12, 24]);
+    any_order(r, total, s, spread, 2000, &format!("orders {seed}"))
+}
+
+pub fn large(seed: u64, total: &mut Total) -> Compared<()> {
+    let r = &mut Random::new(seed);
+    let s = settings(1 + r.below(16) as u32, 1 + r.below(8) as u32, r.pick(&[256, 1024, 4096]));
+    any_order(r, total, s, 24, 20_000, &format!("large {seed}"))
+}
+
+// Random starts, turns, lists and reads of last answers on a fresh table.
+fn any_order(r: &mut Random, total: &mut Total, s: Settings, spread: u64, steps: u64, what: &str) -> Compared<()> {
+    let (more, fill) = (r.pick(&[0, 0, 1, 7, 200]), r.next() as u32);
+    let mut p = opened(total, s, more, fill, what)?;
+    for _ in 0..steps {
+        let i = r.below(s.workers as u64) as u32;
+        match r.below(64) {
+            0 => {
+                p.run(Op::Last(i))?;
+            }
+            1 => {
+                p.run(some_list(r, s.workers, 39))?;
+            }
+            2 => {
+                let (row, column) = clustered(r, spread);
+                p.run(Op::Start(i, row, column))?;
+            }
+            _ => go_on(r, &mut p, i, spread)?,
+        }
+    }
+    total.add(&p);
+    Ok(())
+}
+
+pub fn written(total: &mut Total) -> Compared<()> {
+    nested(total)?;
+    past_the_limit(total)
+}
+
+// A written schedule that nests Moves to 7: pixel 0 is placed; worker 0 places 7; worker 1 places 1 to 6, each whole just before a SetLook of worker 0.
+fn nested(total: &mut Total) -> Compared<()> {
+    let mut p = opened(total, settings(2, 1, 16), 0, 7, "nested")?;
+    whole(&mut p, 0, 0)?;
+    p.run(Op::Start(0, 0, 7))?;
+    let (mut placed, mut deepest) = (vec![], 0);
+    loop {
+        if placed.len() < 6 && p.table.areas.workers[KIND] == Kind::SetLook as u32 {
+            placed.push(whole(&mut p, 1, placed.len() as u32 + 1)?);
+        }
+        let q = p.run(Op::Turn(0))?;
+        deepest = deepest.max(p.table.areas.workers[MOVES]);
+        if q.answer != model::OPEN {
+            placed.push((q.answer, q.node));
+            break;
+        }
+    }
+    assert_eq!(deepest, 7, "Moves nested");
+    assert_eq!(placed, (1..8).map(|n| (model::NEW, n)).collect::<Vec<_>>(), "pixels 1 to 6, then 7");
+    for pixel in 0..8 {
+        assert_eq!(whole(&mut p, 1, pixel)?, (model::FOUND, pixel), "pixel {pixel}");
+    }
+    total.add(&p);
+    Ok(())
+}
+
+// "A count past the limit stays at limit + 1": worker 0 stands at the third node of a full chain while worker 1 moves it, so that the chain is
+// met once more the other way round.
+fn past_the_limit(total: &mut Total) -> Compared<()> {
+    let mut p = opened(total, settings(2, 3, 16), 0, 7, "past the limit")?;
+    for pixel in 0..3 {
+        whole(&mut p, 0, pixel)?;
+    }
+    p.run(Op::Start(0, 0, 3))?;
+    p.run(Op::Turns(vec![0; 6], 6))?;
+    p.run(Op::Start(1, 0, 4))?;
+    while p.table.areas.workers[RECORD + KIND] != Kind::MoveEnd as u32 {
+        p.run(Op::Turn(1))?;
+    }
+    let mut stood = vec![];
+    for _ in 0..6 {
+        stood.push((p.table.areas.workers[NODE], p.table.areas.workers[COUNT]));
+        p.run(Op::Turn(0))?;
+    }
+    assert_eq!(stood, [(2, 3), (2, 3), (1, 4), (1, 4), (0, 4), (0, 4)], "node and count");
+    assert_eq!((p.table.areas.workers[KIND], p.table.areas.workers[LEVEL]), (Kind::Look as u32, 1));
+    total.add(&p);
+    Ok(())
+}
+
+// a whole call of worker i alone: its answer and node
+pub fn whole(p: &mut Pair, i: u32, pixel: u32) -> Compared<(u32, u32)> {
+    p.run(Op::Start(i, pixel >> 12, pixel & 4095))?;
+    for _ in 0..100_000 {
+        let q = p.run(Op::Turn(i))?;
+        if q.answer != model::OPEN {
+            return Ok((q.answer, q.node));
+        }
+    }
+    Err(p.difference(format!("the call of worker {i} for pixel {pixel}, alone, did not end")))
+}
+
+// Memory of any content: words of a running table spoiled, one or several, in all three areas and in the settings.
+pub fn spoiled(seed: u64, total: &mut Total) -> Compared<()> {
+    let r = &mut Random::new(seed);
+    let s = settings(1 + r.below(4) as u32, r.pick(&[1, 1, 2, 3, 8]), 1 + r.below(24) as u32);
+    let more = r.below(3) as usize;
+    let mut p = opened(total, s, more, 3, &format!("spoiled {seed}"))?;
+    let spread = r.pick(&[2, 3, 6, 12]);
+    for _ in 0..40 {
+        for _ in 0..r.below(60) {
+            let i = r.below(s.workers as u64) as u32;
+            go_on(r, &mut p, i, spread)?;
+        }
+        let good = (p.table.areas.clone(), p.table.settings);
+        for _ in 0..1 + r.below(3) {
+            spoil(r, &mut p);
+        }
+        for _ in 0..r.below(12) {
+            let i = r.below(s.workers as u64) as u32;
+            match r.below(6) {
+                0 => p.run(Op::Start(i, r.below(4097) as u32, r.below(4097) as u32))?,
+                1 => p.run(Op::Last(i))?,
+                2 => p.run(some_list(r, s.workers, 12))?,
+                _ => p.run(Op::Turn(i))?,
+            };
+        }
+        // now and then the spoiled table goes on
+        if r.below(4) != 0 {
+            p.set(good.0, good.1);
+        }
+    }
+    total.add(&p);
+    Ok(())
+}
+
+// One word near what the next turns read set to something near its bounds, or levels taken to any number that question 3 accepts.
+fn spoil(r: &mut Random, p: &mut Pair) {
+    let s = p.model.settings;
+    let (nt, lt) = (s.nodes_taken, s.levels_taken);
+    if r.below(17) == 0 {
+        p.put(Place::LevelsTaken, 1 + r.below(model::level_count(&s)) as u32);
+        return;
+    }
+    let near = [0, 1, 2, 3, 6, 7, 8, 9, lt, 2 * lt, 2 * lt - 2, nt, 2 * nt + 1, (2 * nt).saturating_sub(1), s.limit, s.limit + 1, s.limit + 2];
+    let v = match r.below(8) {
+        0 => r.next() as u32,
+        1 => r.pick(&[16_777_215, 16_777_216, u32::MAX, u32::MAX - 1, 1 << 31]),
+        _ => r.pick(&near),
+    };
+    let worker = 128 * r.below(s.workers as u64) as usize;
+    let place = match r.below(4) {
+        0 => Place::Nodes(r.below(2 * nt.max(1) as u64) as usize),
+        1 => Place::Levels(r.below(10 * lt as u64) as usize),
+        2 => Place::Workers(worker + r.below(10) as usize),
+        _ => Place::Workers(worker + 16 + r.below(34) as usize),
+    };
+    p.put(place, v);
+}

@@ -1,0 +1,384 @@
+// Question 6, clause by clause and kind by kind: real calls lead a worker to each kind of turn; there one word is set to values just outside the
+// clause, where the table must answer 6 with nothing changed, and to values just inside, where it must not. The words that a kind does not read are
+// spoilt too. Most clauses need nothing else written; `first` is for those that real calls never come near.
+use crate::coverage::Total;
+use crate::model::{self, Kind, Kind::*, KINDS, NONE};
+use crate::pair::{Compared, Op, Pair};
+use crate::random::Random;
+use crate::sequences::{go_on, opened, settings};
+use crate::words::*;
+
+const MAX: u32 = u32::MAX;
+// its double is 0 in 32 bits
+const HALF: u32 = 1 << 31;
+
+// A word with values outside and inside a clause, and what is written before it to bring the clause about.
+struct Spot {
+    place: Place,
+    outside: Vec<u32>,
+    inside: Vec<u32>,
+    first: Vec<(Place, u32)>,
+}
+
+fn spot(place: Place, outside: &[u32], inside: &[u32]) -> Option<Spot> {
+    Some(Spot { place, outside: outside.to_vec(), inside: inside.to_vec(), first: vec![] })
+}
+// nothing in this word is asked
+fn free(place: Place, values: &[u32]) -> Option<Spot> {
+    spot(place, &[], values)
+}
+
+struct Clause {
+    name: &'static str,
+    kinds: Vec<Kind>,
+    // the record alone is asked, so by a start and by reading a last answer too
+    record: bool,
+    spot: fn(&View) -> Option<Spot>,
+}
+
+impl View<'_> {
+    fn taken_nodes(&self) -> u32 {
+        self.settings.nodes_taken
+    }
+    fn taken_levels(&self) -> u32 {
+        self.settings.levels_taken
+    }
+    fn limit(&self) -> u32 {
+        self.settings.limit
+    }
+    fn level(&self) -> u32 {
+        self.word(LEVEL)
+    }
+    // with this word read, question 6 has nothing against a turn that goes back or remembers
+    fn accepts(&self, word: u32) -> bool {
+        let child = || self.get(self.previous_of(word / 2)) == self.level();
+        let room = || self.word(remembered(self.inner())) < self.limit();
+        match self.kind() {
+            Follow | SetFollow => is_node(word) || child(),
+            ChainNext => !is_node(word) || room(),
+            _ => true,
+        }
+    }
+
+    // ChainNext reads the next of the last of c nodes, and at the limit no further node may come
+    fn may_remember(&self, c: u32) -> bool {
+        let last = self.word(node(self.inner(), c as usize - 1));
+        self.kind() != ChainNext || c < self.limit() || !is_node(self.get(self.next_of(last)))
+    }
+
+    // a number in a record: any taken one is accepted
+    fn number(&self, word: usize, taken: u32) -> Option<Spot> {
+        spot(self.at(word), &[taken, HALF, MAX], &[0, taken - 1])
+    }
+    // the record's level; going back from a level would not meet another one, and a new level needs room below
+    fn record_level(&self) -> Option<Spot> {
+        let newest = self.taken_levels() - 1;
+        let fits = match self.kind() {
+            Follow | SetFollow => is_node(self.read()),
+            Level | SetLevel => self.get(self.depth_of(newest)) <= 6,
+            _ => true,
+        };
+        if fits {
+            self.number(LEVEL, self.taken_levels())
+        } else {
+            None
+        }
+    }
+    // a node in a record whose next is read
+    fn record_node(&self, word: usize) -> Option<Spot> {
+        let reads_next = matches!(self.kind(), Tail | Follow | SetTail | SetFollow | ChainNext);
+        if reads_next && [0, self.taken_nodes() - 1].iter().any(|&i| !self.accepts(self.get(self.next_of(i)))) {
+            return None;
+        }
+        self.number(word, self.taken_nodes())
+    }
+    fn node_read(&self) -> Option<Spot> {
+        let n = self.taken_nodes();
+        if n == 0 || !self.accepts(2 * n - 1) {
+            return None;
+        }
+        spot(self.cell(), &[2 * n + 1, MAX], &[1, 2 * n - 1])
+    }
+    fn level_read(&self) -> Option<Spot> {
+        let g = self.taken_levels();
+        if !self.accepts(2 * g - 2) {
+            return None;
+        }
+        spot(self.cell(), &[2 * g, MAX - 1], &[2 * g - 2])
+    }
+    fn pixel_word(&self, i: u32) -> Option<Spot> {
+        spot(self.pixel_of(i), &[TOP + 1, MAX], &[0, TOP])
+    }
+    // the node named by the word that is read
+    fn node_met(&self) -> Option<u32> {
+        Some(self.read()).filter(|&w| is_node(w)).map(|w| w / 2)
+    }
+    fn level_met(&self) -> Option<u32> {
+        Some(self.read()).filter(|&w| !is_node(w)).map(|w| w / 2)
+    }
+    // the level in which an entry is picked
+    fn picked(&self) -> u32 {
+        match self.kind() {
+            ChainHead | MoveEnd => self.word(home(self.inner())),
+            _ => self.level(),
+        }
+    }
+    // the last node of the Move around the innermost one
+    fn outer_last(&self) -> Option<usize> {
+        if self.moves() < 2 {
+            return None;
+        }
+        Some(self.last(self.inner() - 1))
+    }
+
+    // n Moves: the innermost one as it is, those around it with one node each
+    fn stacked(&self, n: usize) -> Vec<(Place, u32)> {
+        let mut put = vec![(MOVES, n as u32)];
+        for j in 0..n - 1 {
+            put.extend([(home(j), 0), (child(j), 0), (remembered(j), 1), (node(j, 0), 0)]);
+        }
+        put.extend((0..11).map(|k| (home(n - 1) + k, self.word(home(self.inner()) + k))));
+        put.into_iter().map(|(k, v)| (self.at(k), v)).collect()
+    }
+    fn seven_moves(&self) -> Option<Spot> {
+        // SetClose: an exchange that fails needs no further Move
+        let mut x = if self.kind() == SetClose { free(self.cell(), &[NONE])? } else { free(self.at(MOVES), &[7])? };
+        x.first = self.stacked(7);
+        Some(x)
+    }
+    fn eight_moves(&self) -> Option<Spot> {
+        let mut x = spot(self.at(MOVES), &[8], &[])?;
+        x.first = self.stacked(8);
+        Some(x)
+    }
+    // the innermost of seven Moves closes a chain
+    fn eighth_move(&self, by: Place, outside: &[u32], inside: &[u32]) -> Option<Spot> {
+        let mut x = spot(by, outside, inside)?;
+        x.first = self.stacked(7);
+        x.first.push((self.cell(), 2 * self.level()));
+        Some(x)
+    }
+
+    // R's next leads over eight levels, of which the seventh hangs below H or below the eighth
+    fn long_way_back(&self) -> Option<Spot> {
+        let levels: Vec<u32> = (0..self.taken_levels()).filter(|&g| g != self.level()).take(8).collect();
+        if levels.len() < 8 {
+            return None;
+        }
+        let mut x = spot(self.previous_of(levels[6]), &[levels[7]], &[self.level()])?;
+        x.first.push((self.cell(), 2 * levels[0]));
+        for k in 0..6 {
+            x.first.push((self.previous_of(levels[k]), levels[k + 1]));
+        }
+        x.first.push((self.previous_of(levels[7]), self.level()));
+        Some(x)
+    }
+    fn no_level_left(&self) -> Option<Spot> {
+        let all = model::level_count(&self.settings) as u32;
+        let mut x = spot(Place::LevelsTaken, &[all], &[all - 1])?;
+        x.first.push((self.at(HELD_LEVEL), 0));
+        Some(x)
+    }
+}
+
+fn clause(name: &'static str, kinds: &[Kind], spot: fn(&View) -> Option<Spot>) -> Clause {
+    Clause { name, kinds: kinds.to_vec(), record: false, spot }
+}
+fn record(name: &'static str, kinds: &[Kind], spot: fn(&View) -> Option<Spot>) -> Clause {
+    Clause { name, kinds: kinds.to_vec(), record: true, spot }
+}
+fn but(kinds: &[Kind], not: &[Kind]) -> Vec<Kind> {
+    kinds.iter().copied().filter(|k| !not.contains(k)).collect()
+}
+
+fn clauses() -> Vec<Clause> {
+    let (open, searching, moving) = (&KINDS[1..], &KINDS[1..11], &KINDS[11..]);
+    let counting = [Tail, TakeTail, Append, Level, Close, Follow, SetTail, SetAppend, SetLevel, SetClose, SetFollow];
+    let at_r = [Tail, Append, Close, Follow, SetTail, SetAppend, SetClose, SetFollow];
+    let reading = [Look, Read, Tail, Follow, ChainHead, ChainNext, SetLook, SetRead, SetTail, SetFollow];
+    let exchanging = [Put, Append, Close, SetPut, SetAppend, SetClose];
+    let picking = [Look, Put, Read, SetLook, SetPut, SetRead, ChainHead, MoveEnd];
+    let going_back = [Follow, SetFollow];
+    let making_levels = [Level, SetLevel];
+    let gathering = [ChainHead, MoveEnd];
+    vec![
+        // the record fits its layout
+        record("kind above 22", &KINDS, |v| spot(v.at(KIND), &[23, MAX], &[v.word(KIND)])),
+        record("last answer above 3", &[Idle], |v| spot(v.at(ANSWER), &[4, MAX], &[0, 1, 2, 3])),
+        record("call's pixel", open, |v| spot(v.at(PIXEL), &[TOP + 1, MAX], &[0, TOP])),
+        record("count", &counting, |v| spot(v.at(COUNT), &[0, v.limit() + 2, MAX], &[1, v.limit() + 1])),
+        record("a Move in a search", searching, |v| spot(v.at(MOVES), &[1, 7, MAX], &[0])),
+        record("no Move in a Move", moving, |v| spot(v.at(MOVES), &[0], &[v.word(MOVES)])),
+        record("eight Moves", moving, |v| v.eight_moves()),
+        record("nodes of an outer Move", moving, |v| {
+            v.outer_last()?;
+            spot(v.at(remembered(0)), &[0, v.limit() + 1, MAX], &[1, v.limit()])
+        }),
+        record("nodes of the innermost Move", &but(moving, &gathering), |v| {
+            let inside: Vec<u32> = [1, v.limit()].into_iter().filter(|&c| v.may_remember(c)).collect();
+            spot(v.at(remembered(v.inner())), &[0, v.limit() + 1, MAX], &inside)
+        }),
+        record("a node where none is remembered", &gathering, |v| spot(v.at(remembered(v.inner())), &[1, v.limit(), MAX], &[0])),
+        // references from the record
+        clause("level not taken", &but(open, &[ChainHead, ChainNext, MoveEnd]), |v| v.record_level()),
+        clause("R not taken", &at_r, |v| v.record_node(NODE)),
+        clause("N not taken", &[ChainNext, SetNext, SetLook, SetPut, SetRead, SetAppend], |v| v.record_node(v.last(v.inner()))),
+        clause("outer N not taken", &gathering, |v| v.number(v.outer_last()?, v.taken_nodes())),
+        clause("home not taken", &gathering, |v| v.number(home(v.inner()), v.taken_levels())),
+        clause("child not taken", &[MoveEnd], |v| v.number(child(v.inner()), v.taken_levels())),
+        clause("node in hand", &[Put, Append], |v| spot(v.at(HELD_NODE), &[0, v.taken_nodes() + 1, MAX], &[1, v.taken_nodes()])),
+        clause("spare node", &[Take, TakeTail], |v| spot(v.at(HELD_NODE), &[v.taken_nodes() + 1, MAX], &[0, v.taken_nodes()])),
+        clause("level in hand", &[Close, SetClose], |v| spot(v.at(HELD_LEVEL), &[0, v.taken_levels() + 1, MAX], &[1, v.taken_levels()])),
+        clause("spare level", &making_levels, |v| spot(v.at(HELD_LEVEL), &[v.taken_levels() + 1, MAX], &[1, v.taken_levels()])),
+        // what is read from the areas
+        clause("node read not taken", &reading, |v| v.node_read()),
+        clause("level read not taken", &reading, |v| v.level_read()),
+        clause("pixel compared", &[Read, Follow], |v| v.pixel_word(v.node_met()?)),
+        clause("N's pixel", &[SetLook, SetPut, SetRead], |v| v.pixel_word(v.n())),
+        clause("outer N's pixel", &gathering, |v| v.pixel_word(v.word(v.outer_last()?))),
+        clause("depth", &picking, |v| spot(v.depth_of(v.picked()), &[8, MAX], &[0, 7])),
+        clause("new level's depth", &making_levels, |v| spot(v.depth_of(v.level()), &[7, 8, MAX], &[0, 6])),
+        clause("going back meets none", &going_back, |v| spot(v.previous_of(v.level_met()?), &[NONE], &[v.level()])),
+        clause("going back meets a level not taken", &going_back, |v| {
+            let (met, newest) = (v.level_met()?, v.taken_levels() - 1);
+            if met == newest || v.get(v.previous_of(newest)) != v.level() {
+                return None;
+            }
+            spot(v.previous_of(met), &[newest + 1, HALF, MAX - 1], &[newest])
+        }),
+        clause("going back reads eight words", &going_back, |v| v.long_way_back()),
+        clause("a chain above the limit", &[ChainNext], |v| {
+            if v.word(remembered(v.inner())) != v.limit() {
+                return None;
+            }
+            spot(v.cell(), &[1, 2 * v.taken_nodes() - 1], &[0, 2 * v.taken_levels() - 2])
+        }),
+        clause("an eighth Move, by the Moves", &[SetClose], |v| v.eighth_move(v.at(MOVES), &[7], &[6])),
+        clause("an eighth Move, by R's next", &[SetClose], |v| {
+            v.eighth_move(v.cell(), &[2 * v.level()], &[2 * v.level() + 1, 2 * v.level() + 2, MAX])
+        }),
+        clause("no level left", &making_levels, |v| v.no_level_left()),
+        // what is not read is not asked
+        clause("free: seven Moves", moving, |v| v.seven_moves()),
+        clause("free: a spare level where none is left", &making_levels, |v| {
+            let mut x = free(v.at(HELD_LEVEL), &[1, v.taken_levels()])?;
+            x.first.push((Place::LevelsTaken, model::level_count(&v.settings) as u32));
+            Some(x)
+        }),
+        clause("free: the cell of an exchange", &exchanging, |v| free(v.cell(), &[2 * v.taken_nodes() + 1, 2 * v.taken_levels(), MAX, MAX - 1])),
+        clause("free: the cell that is written", &[SetNext, MoveEnd], |v| {
+            free(v.cell(), &[2 * v.taken_nodes() + 1, 2 * v.taken_levels(), MAX, MAX - 1])
+        }),
+        clause("free: an idle worker's words", &[Idle], |v| {
+            let mut x = free(v.at(PIXEL), &[MAX])?;
+            x.first = [LEVEL, NODE, COUNT, HELD_NODE, HELD_LEVEL, ANSWER_NODE, MOVES].map(|k| (v.at(k), MAX)).to_vec();
+            Some(x)
+        }),
+        clause("free: level", &[ChainHead, ChainNext, MoveEnd], |v| free(v.at(LEVEL), &[MAX])),
+        clause("free: R", &but(open, &at_r), |v| free(v.at(NODE), &[MAX])),
+        clause("free: count", &but(open, &counting), |v| free(v.at(COUNT), &[0, MAX])),
+        clause("free: held node", &but(open, &[Take, TakeTail, Put, Append]), |v| free(v.at(HELD_NODE), &[MAX])),
+        clause("free: held level", &but(open, &[Level, SetLevel, Close, SetClose]), |v| free(v.at(HELD_LEVEL), &[MAX])),
+        clause("free: last answer", open, |v| free(v.at(ANSWER), &[4, MAX])),
+        clause("free: N", &[SetTail, SetLevel, SetClose, SetFollow], |v| free(v.at(v.last(v.inner())), &[MAX])),
+        clause("free: home", &but(moving, &gathering), |v| free(v.at(home(v.inner())), &[MAX])),
+        clause("free: child", &but(moving, &[MoveEnd]), |v| free(v.at(child(v.inner())), &[MAX])),
+        clause("free: the level's depth", &[Take, TakeTail, Tail, Append, Close, Follow, SetNext, SetTail, SetAppend, SetClose, SetFollow], |v| {
+            free(v.depth_of(v.level()), &[8, MAX])
+        }),
+        clause("free: the level's previous", &but(open, &[Follow, SetFollow]), |v| free(v.previous_of(v.level()), &[NONE, MAX - 1])),
+        clause("free: R's pixel", &at_r, |v| free(v.pixel_of(v.word(NODE)), &[MAX])),
+        clause("free: N's pixel", &[ChainNext, SetNext, SetTail, SetAppend, SetLevel, SetClose, SetFollow], |v| free(v.pixel_of(v.n()), &[MAX])),
+        clause("free: pixel of the node read", &but(&reading, &[Read, Follow]), |v| free(v.pixel_of(v.node_met()?), &[MAX])),
+    ]
+}
+
+// how often each clause is tried at each kind, and how often of these in one table
+const OFTEN: u64 = 60;
+const IN_ONE: u64 = 3;
+
+// What each kind was tried with; clauses never reached are given back.
+pub fn aimed(seed: u64, total: &mut Total) -> Compared<Vec<String>> {
+    let clauses = clauses();
+    let mut tried = vec![[0u64; 23]; clauses.len()];
+    let r = &mut Random::new(seed);
+    for n in 0..300 {
+        if clauses.iter().zip(&tried).all(|(c, t)| c.kinds.iter().all(|&k| t[k as usize] >= OFTEN)) {
+            break;
+        }
+        one_table(r, total, &clauses, &mut tried, &format!("six {seed}, table {n}"))?;
+    }
+    let mut missing = vec![];
+    for (c, t) in clauses.iter().zip(&tried) {
+        let kinds: Vec<String> = c.kinds.iter().map(|&k| format!("{k:?} {}", t[k as usize])).collect();
+        println!("6, {}: {}", c.name, kinds.join(", "));
+        missing.extend(c.kinds.iter().filter(|&&k| t[k as usize] == 0).map(|k| format!("6 of {k:?}: {}", c.name)));
+    }
+    Ok(missing)
+}
+
+fn one_table(r: &mut Random, total: &mut Total, clauses: &[Clause], tried: &mut [[u64; 23]], what: &str) -> Compared<()> {
+    let s = settings(2 + r.below(4) as u32, r.pick(&[1, 1, 2, 2, 3, 8]), 6 + r.below(26) as u32);
+    let mut p = opened(total, s, 0, 6, what)?;
+    let spread = r.pick(&[2, 3, 4, 6]);
+    let mut here = vec![[0u64; 23]; clauses.len()];
+    for _ in 0..700 {
+        let i = r.below(s.workers as u64) as u32;
+        for (c, clause) in clauses.iter().enumerate() {
+            let k = p.table.areas.workers[RECORD * i as usize] as usize;
+            if tried[c][k] < OFTEN && here[c][k] < IN_ONE && clause.kinds.contains(&KINDS[k]) && check(&mut p, clause, i)? {
+                tried[c][k] += 1;
+                here[c][k] += 1;
+            }
+        }
+        go_on(r, &mut p, i, spread)?;
+    }
+    total.add(&p);
+    Ok(())
+}
+
+// tries the clause where worker i stands, if it can be brought about there
+fn check(p: &mut Pair, c: &Clause, i: u32) -> Compared<bool> {
+    let kept = (p.table.areas.clone(), p.table.settings);
+    let v = View { areas: &kept.0, settings: kept.1, worker: i };
+    let Some(x) = (c.spot)(&v) else { return Ok(false) };
+    let idle = v.kind() == Idle;
+    for (values, outside) in [(&x.outside, true), (&x.inside, false)] {
+        for &value in values {
+            for &(place, w) in &x.first {
+                p.put(place, w);
+            }
+            p.put(x.place, value);
+            let spoilt = (p.table.areas.clone(), p.table.settings);
+            for (op, wanted) in wanted(c, i, idle, outside) {
+                let got = p.run(op.clone())?;
+                if !wanted.contains(&(got.number, got.turns)) {
+                    return Err(p.difference(format!("{:?}, {}: {op:?} with {value} in {:?} gives {got:?}", v.kind(), c.name, x.place)));
+                }
+                p.set(spoilt.0.clone(), spoilt.1);
+            }
+            p.set(kept.0.clone(), kept.1);
+        }
+    }
+    Ok(true)
+}
+
+// the numbers and turns done that each operation may give
+fn wanted(c: &Clause, i: u32, idle: bool, outside: bool) -> Vec<(Op, Vec<(u32, u32)>)> {
+    let (turn, list): (&[u32], (u32, u32)) = match (outside, idle) {
+        (true, _) => (&[6], (6, 0)),
+        (false, true) => (&[8], (0, 0)),
+        (false, false) => (&[0, 9], (0, 1)),
+    };
+    let (start, last) = match (outside && c.record, idle) {
+        (true, _) => (6, 6),
+        (false, true) => (0, 0),
+        (false, false) => (7, 0),
+    };
+    vec![
+        (Op::Turn(i), turn.iter().map(|&n| (n, 0)).collect()),
+        (Op::Turns(vec![i as u8], 1), vec![list]),
+        (Op::Start(i, 1, 2), vec![(start, 0)]),
+        (Op::Last(i), vec![(last, 0)]),
+    ]
+}

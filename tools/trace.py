@@ -1,0 +1,80 @@
+#!/usr/bin/env python3
+"""Writes docs/TRACE.md: a chain move turn by turn with the words that change. python3 tools/trace.py > docs/TRACE.md"""
+import os
+import sys
+from states import KINDS, ROOT, WORDS, ref, states
+
+TEXT = "examples/move.txt"
+HEAD = """# A chain move, turn by turn
+
+Written by `python3 tools/trace.py` from the library's own words; the tests compare it with a new run. The text is `{name}`: chain limit 2,
+(0,0) and (64,0) are placed by worker 0 and stand in one chain of level 0, because their first digits are the same; then worker 0 places (128,0),
+and worker 1 looks for (64,0) in the middle of the Move.
+
+Each row is one turn: the worker, the kind of turn that it did, the words that changed in nodes and levels, and the worker's record after it.
+`n3` is node 3 (reference 7), `L1` is level 1 (reference 2).
+
+"""
+
+
+def named(area, k, g=None):
+    return "n%d.%s" % (k // 2, "next" if k % 2 else "pixel") if area == "node" else "L%d.%s" % (k // 10, ["previous", "depth"][k % 10] if k % 10 < 2 else k % 10 - 2)
+
+
+def flat(st, area):
+    return [w for row in getattr(st, area + "s") for w in row]
+
+
+def shown(area, k, word):
+    plain = (area == "node" and k % 2 == 0) or (area == "level" and k % 10 < 2)
+    return ("none" if word == 4294967295 else str(word)) if plain else ref(word)
+
+
+def changes(before, st):
+    """The words of nodes and levels that this line changed or brought."""
+    out = []
+    for area in ("node", "level"):
+        old, new = flat(before, area), flat(st, area)
+        fresh = [k for k in range(len(old), len(new))]
+        for k, word in enumerate(new):
+            if k < len(old) and old[k] != word:
+                out.append("%s: %s → %s" % (named(area, k), shown(area, k, old[k]), shown(area, k, word)))
+        if fresh and area == "node":
+            out.append("new " + ", ".join("%s = %s" % (named(area, k), shown(area, k, new[k])) for k in fresh))
+        if fresh and area == "level":
+            g = fresh[0] // 10
+            out.append("new L%d: previous L%d, depth %d, every entry %s" % (g, new[10 * g], new[10 * g + 1], ref(new[10 * g + 2])))
+    return "; ".join(out) or "none"
+
+
+def record(st, i):
+    """The words of worker i's record that the kind uses."""
+    w = st.worker(i)
+    out = [w["kind"]]
+    if w["kind"] != "Idle":
+        out.append("level L%d" % w["level"])
+    if w["kind"] in ("Tail", "TakeTail", "Append", "Level", "Close", "Follow", "SetTail", "SetAppend", "SetLevel", "SetClose", "SetFollow"):
+        out += ["node n%d" % w["node"], "count %d" % w["count"]]
+    if w["held_node"]:
+        out.append("holds n%d" % (w["held_node"] - 1))
+    if w["held_level"]:
+        out.append("holds L%d" % (w["held_level"] - 1))
+    for home, child, count, *nodes in w["list"]:
+        out.append("Move L%d to L%d [%s]" % (home, child, " ".join("n%d" % n for n in nodes[:count])))
+    return ", ".join(out)
+
+
+def main():
+    found = states(open(os.path.join(ROOT, TEXT)).read())
+    print(HEAD.format(name=TEXT), end="")
+    print("| line | text | turn | words changed in nodes and levels | record after it | answer |\n|---|---|---|---|---|---|")
+    for k in range(1, len(found)):
+        before, st = found[k - 1], found[k]
+        i = int(st.line.split(",")[1])
+        kind = "start" if st.line[0] == "c" else before.worker(i)["kind"]
+        answer = ["", "new n%d" % st.reply[2], "found n%d" % st.reply[2], "full", ""][st.reply[1]]
+        print("| %d | `%s` | %s | %s | %s | %s |" % (k + 1, st.line, kind, changes(before, st), record(st, i), answer))
+
+
+if __name__ == "__main__":
+    main()
