@@ -167,10 +167,11 @@ fn set_cell_of(h: Head, v: Move, nodes: &[u32], levels: &[u32]) -> Cell
     entry_cell(levels, h.level, pixel_at(nodes, last_node(v)))
 }
 
-fn set_looks(s: Settings, h: Head, v: Move, nodes: &[u32], levels: &[u32]) -> bool
+// x is that entry, which is found once a turn.
+fn set_looks(s: Settings, h: Head, v: Move, x: Cell, nodes: &[u32], levels: &[u32]) -> bool
+    requires { ⌜ x ≡ setCellOf 3 h v (memory (now nodes) (now levels)) ⌝ }
     ensures { λ r. ⌜ r ≡ setLooks 3 s h v (memory (now (nodes .entry)) (now (levels .entry))) ⌝ }
 {
-    let x = set_cell_of(h, v, nodes, levels);
     and(
         set_puts(s, h, v, nodes, levels),
         reads_ref(s, x, nodes, levels),
@@ -523,8 +524,9 @@ impl Mover {
     {
         let h = self.head;
         let v = self.inner;
-        if set_looks(s, h, v, nodes, levels) {
-            let word = cell_at(set_cell_of(h, v, nodes, levels), nodes, levels);
+        let x = set_cell_of(h, v, nodes, levels);
+        if set_looks(s, h, v, x, nodes, levels) {
+            let word = cell_at(x, nodes, levels);
             self.stay(s, peeked(h, word, Kind::SetPut, Kind::SetRead), v)
         } else {
             self.refused(s)
@@ -555,8 +557,9 @@ impl Mover {
     {
         let h = self.head;
         let v = self.inner;
-        if set_looks(s, h, v, nodes, levels) {
-            let word = cell_at(set_cell_of(h, v, nodes, levels), nodes, levels);
+        let x = set_cell_of(h, v, nodes, levels);
+        if set_looks(s, h, v, x, nodes, levels) {
+            let word = cell_at(x, nodes, levels);
             self.stay(s, met_head(h, 1, named(word), word), v)
         } else {
             self.refused(s)

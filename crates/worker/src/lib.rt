@@ -4,7 +4,7 @@ ghost use mathlib.Core.Path.{_≡_};
 ghost use mathlib.Core.List.{[]};
 ghost use Prim.Native.Nat.{_≤_};
 ghost use Rattle.settings.specs.Sizes.{Sized};
-ghost use Rattle.areas.specs.Memory.{memory, depthAt};
+ghost use Rattle.areas.specs.Memory.{memory, depthAt, cellAt};
 ghost use Rattle.rules.specs.Steps.{withNode, takeNode, takeLevel, closed};
 ghost use Rattle.rules.specs.Searching.{entryOf, placed, metNode, met, readWord, followWord, look, take, put, read, tail, takeTail, append, level, close, follow};
 ghost use Rattle.rules.specs.Asked.{nodeLeft, takes, tails, takesLevel, closes, looks, puts, reads, appends, follows};
@@ -215,11 +215,11 @@ fn close_chain(s: Settings, h: Head, nodes: &mut [u32], levels: &[u32]) -> Turne
     answered(0, Answer::Open, s, t.head, t.child)
 }
 
-// Question 6 of the kinds that searching has alone.
-fn looks(s: Settings, h: Head, nodes: &[u32], levels: &[u32]) -> bool
+// Question 6 of the kinds that searching has alone. The entry x of K in H, or the word in it, is found once a turn.
+fn looks(s: Settings, h: Head, x: Cell, nodes: &[u32], levels: &[u32]) -> bool
+    requires { ⌜ x ≡ entryOf 3 h (now levels) ⌝ }
     ensures { λ r. ⌜ r ≡ looks 3 s h (memory (now (nodes .entry)) (now (levels .entry))) ⌝ }
 {
-    let x = entry_of(h, levels);
     and(picks_in(s, h.level, levels), reads_ref(s, x, nodes, levels))
 }
 
@@ -235,10 +235,10 @@ fn puts(s: Settings, h: Head, levels: &[u32]) -> bool
     and(picks_in(s, h.level, levels), node_in_hand(s, h))
 }
 
-fn reads(s: Settings, h: Head, nodes: &[u32], levels: &[u32]) -> bool
+fn reads(s: Settings, h: Head, word: u32, nodes: &[u32], levels: &[u32]) -> bool
+    requires { ⌜ word ≡ cellAt 3 (memory (now nodes) (now levels)) (entryOf 3 h (now levels)) ⌝ }
     ensures { λ r. ⌜ r ≡ reads 3 s h (memory (now (nodes .entry)) (now (levels .entry))) ⌝ }
 {
-    let word = cell_at(entry_of(h, levels), nodes, levels);
     and(picks_in(s, h.level, levels), compares_ref(s, word, nodes))
 }
 
@@ -281,8 +281,9 @@ impl Worker {
         ensures { λ r. ⌜ turned r (memory (now (nodes .entry)) (now (levels .entry))) ≡ unlessSix (looks 3 s (self .head) (memory (now (nodes .entry)) (now (levels .entry)))) s (self .head) [] (memory (now (nodes .entry)) (now (levels .entry))) (tried 0 (look 3 s (self .head) (memory (now (nodes .entry)) (now (levels .entry))))) ⌝ }
     {
         let h = self.head;
-        if looks(s, h, nodes, levels) {
-            let word = cell_at(entry_of(h, levels), nodes, levels);
+        let x = entry_of(h, levels);
+        if looks(s, h, x, nodes, levels) {
+            let word = cell_at(x, nodes, levels);
             going(s, peeked(h, word, Kind::Take, Kind::Read))
         } else {
             refused_six(s, h)
@@ -316,8 +317,8 @@ impl Worker {
         ensures { λ r. ⌜ turned r (memory (now (nodes .entry)) (now (levels .entry))) ≡ unlessSix (reads 3 s (self .head) (memory (now (nodes .entry)) (now (levels .entry)))) s (self .head) [] (memory (now (nodes .entry)) (now (levels .entry))) (tried 0 (read 3 s (self .head) (memory (now (nodes .entry)) (now (levels .entry))))) ⌝ }
     {
         let h = self.head;
-        if reads(s, h, nodes, levels) {
-            let word = cell_at(entry_of(h, levels), nodes, levels);
+        let word = cell_at(entry_of(h, levels), nodes, levels);
+        if reads(s, h, word, nodes, levels) {
             read_word(s, h, word, nodes, levels)
         } else {
             refused_six(s, h)

@@ -6,9 +6,6 @@ use borrow.Author.Needs.{needs}
 use Rattle.mover.proofs.set_looks.Statement.{statement}
 use Rattle.mover.proofs.set_looks.Tie as tie
 
-set-cell-of-requires : tie.Need-set-cell-of-requires
-set-cell-of-requires c κs = search needs
-
 set-puts-requires : tie.Need-set-puts-requires
 set-puts-requires c κs = search needs
 
@@ -26,7 +23,6 @@ pub set-looks-spec : {M : Type 1} → statement M
 set-looks-spec =
     tie.close
     (tie.spec
-    set-cell-of-requires
     set-puts-requires
     reads-ref-requires
     and-requires

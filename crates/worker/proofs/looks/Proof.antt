@@ -6,9 +6,6 @@ use borrow.Author.Needs.{needs}
 use Rattle.worker.proofs.looks.Statement.{statement}
 use Rattle.worker.proofs.looks.Tie as tie
 
-entry-of-requires : tie.Need-entry-of-requires
-entry-of-requires c κs = search needs
-
 picks-in-requires : tie.Need-picks-in-requires
 picks-in-requires c κs = search needs
 
@@ -26,7 +23,6 @@ pub looks-spec : {M : Type 1} → statement M
 looks-spec =
     tie.close
     (tie.spec
-    entry-of-requires
     picks-in-requires
     reads-ref-requires
     and-requires

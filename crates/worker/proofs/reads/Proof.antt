@@ -6,12 +6,6 @@ use borrow.Author.Needs.{needs}
 use Rattle.worker.proofs.reads.Statement.{statement}
 use Rattle.worker.proofs.reads.Tie as tie
 
-entry-of-requires : tie.Need-entry-of-requires
-entry-of-requires c κs = search needs
-
-cell-at-requires : tie.Need-cell-at-requires
-cell-at-requires c κs = search needs
-
 picks-in-requires : tie.Need-picks-in-requires
 picks-in-requires c κs = search needs
 
@@ -29,8 +23,6 @@ pub reads-spec : {M : Type 1} → statement M
 reads-spec =
     tie.close
     (tie.spec
-    entry-of-requires
-    cell-at-requires
     picks-in-requires
     compares-ref-requires
     and-requires

@@ -48,8 +48,8 @@ pub set-look-spec : {M : Type 1} → statement M
 set-look-spec =
     tie.close
     (tie.spec
-    set-looks-requires
     set-cell-of-requires
+    set-looks-requires
     cell-at-requires
     peeked-requires
     stay-requires

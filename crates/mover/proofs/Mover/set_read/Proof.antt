@@ -51,8 +51,8 @@ pub set-read-spec : {M : Type 1} → statement M
 set-read-spec =
     tie.close
     (tie.spec
-    set-looks-requires
     set-cell-of-requires
+    set-looks-requires
     cell-at-requires
     named-requires
     met-head-requires

@@ -36,8 +36,8 @@ pub look-spec : {M : Type 1} → statement M
 look-spec =
     tie.close
     (tie.spec
-    looks-requires
     entry-of-requires
+    looks-requires
     cell-at-requires
     peeked-requires
     going-requires

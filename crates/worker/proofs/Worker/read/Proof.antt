@@ -8,7 +8,7 @@ use Rattle.worker.proofs.Worker.read.Statement.{statement}
 use Rattle.worker.proofs.Worker.read.Tie as tie
 
 reads-requires : tie.Need-reads-requires
-reads-requires c κs = search needs
+reads-requires c κs = search (needs, cell-word)
 
 entry-of-requires : tie.Need-entry-of-requires
 entry-of-requires c κs = search needs
@@ -33,9 +33,9 @@ pub read-spec : {M : Type 1} → statement M
 read-spec =
     tie.close
     (tie.spec
-    reads-requires
     entry-of-requires
     cell-at-requires
+    reads-requires
     read-word-requires
     refused-six-requires
     returns
