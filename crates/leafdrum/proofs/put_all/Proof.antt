@@ -1,0 +1,70 @@
+-- `leafdrum::put_all` is safe and ends.
+-- Relies on run: each thing printed takes from what is left.
+use mathlib.Core.Path.{_≡_}
+use lib.ListN.{length}
+use Rattle.run.specs.Remaining.{Fine, left}
+use Rattle.run.proofs.Run.{begin-fine, run-fine, run-less}
+use borrow.Author.Needs.{needs}
+use Rattle.leafdrum.proofs.put_all.Statement.{statement}
+use Rattle.leafdrum.proofs.put_all.Tie as tie
+
+abbrev Inv-loop : tie.InvT-loop
+Inv-loop input nodes₀ levels₀ workers₀ p₀ nodes levels workers p =
+    Fine p input
+    × (length nodes ≡ length nodes₀)
+    × (length levels ≡ length levels₀)
+    × (length workers ≡ length workers₀)
+
+abbrev μ-loop : tie.MeasureT-loop
+μ-loop input nodes₀ levels₀ workers₀ p₀ nodes levels workers p = left p input
+
+begin-requires : tie.Need-begin-requires Inv-loop μ-loop
+begin-requires c κs = search needs
+
+loop-holds : tie.Need-loop-holds Inv-loop μ-loop
+loop-holds c = search (needs, begin-fine)
+
+goes-on-requires : tie.Need-goes-on-requires Inv-loop μ-loop
+goes-on-requires c κs = search needs
+
+next-requires : tie.Need-next-requires Inv-loop μ-loop
+next-requires c κs = search needs
+
+put-out-requires : tie.Need-put-out-requires Inv-loop μ-loop
+put-out-requires c κs = search needs
+
+loop-less : tie.Need-loop-less Inv-loop μ-loop
+loop-less c = search (needs, run-less)
+
+loop-again : tie.Need-loop-again Inv-loop μ-loop
+loop-again c = search (needs, run-fine)
+
+same-length : tie.Need-same-length Inv-loop μ-loop
+same-length c = search needs
+
+same-length-2 : tie.Need-same-length-2 Inv-loop μ-loop
+same-length-2 c = search needs
+
+same-length-3 : tie.Need-same-length-3 Inv-loop μ-loop
+same-length-3 c = search needs
+
+returns : tie.Need-returns Inv-loop μ-loop
+returns c = search needs
+
+pub put-all-spec : {M : Type 1} → statement M
+put-all-spec =
+    tie.close
+    (tie.spec
+    Inv-loop
+    μ-loop
+    begin-requires
+    loop-holds
+    goes-on-requires
+    next-requires
+    put-out-requires
+    loop-less
+    loop-again
+    same-length
+    same-length-2
+    same-length-3
+    returns)

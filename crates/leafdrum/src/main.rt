@@ -1,0 +1,46 @@
+// The text program: reads standard input, and writes what the run over it prints.
+// Relies on run for what is printed, on text for its bytes, on io for reading and writing.
+ghost use mathlib.Core.Path.{_≡_};
+ghost use lib.ListN.{take};
+ghost use Rattle.text.specs.Printing.{bytesOf};
+use run::begin;
+use run::goes_on;
+use run::next;
+use text::Printed;
+use text::spell;
+
+// The n bytes that spell x are written.
+fn put_bytes(x: Printed, out: &[u8; 64], n: usize)
+    requires { ⌜ take n (now out) ≡ bytesOf x ⌝ }
+{
+    let all: &[u8] = out;
+    io::write_all(1, &all[..n]);
+}
+
+fn put_out(x: Printed) {
+    let mut out = [0u8; 64];
+    let n = spell(x, &mut out);
+    put_bytes(x, &out, n);
+}
+
+// Everything that is printed for an input, one thing after the other.
+fn put_all(input: &[u8], nodes: &mut [u32], levels: &mut [u32], workers: &mut [u32]) {
+    let mut p = begin();
+    while goes_on(p) {
+        let t = next(p, input, nodes, levels, workers);
+        let x = t.printed;
+        put_out(x);
+        let q = t.progress;
+        p = q;
+    }
+}
+
+// One byte more than the program takes is read, so that a longer input is known. The areas have room for 128 nodes and 16 workers at every chain limit.
+fn main() {
+    let mut input = [0u8; 65537];
+    let mut nodes = [0u32; 256];
+    let mut levels = [0u32; 9130];
+    let mut workers = [0u32; 2048];
+    let n = io::read_full(0, &mut input);
+    put_all(&input[..n], &mut nodes, &mut levels, &mut workers);
+}

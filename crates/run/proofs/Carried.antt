@@ -1,0 +1,109 @@
+-- The ways through one line: a start, a turn, a line that does not read, and the first line.
+-- Relies on nothing.
+use mathlib.Core.Path.{_≡_}
+use mathlib.Core.Bool.{true, false}
+use mathlib.Core.List.{List}
+use Prim.Native.Nat.{ℕ}
+use lib.Dec.{eqb, leb}
+use Rattle.words.specs.Choice.{pick}
+use Rattle.settings.specs.Sizes.{fresh}
+use Rattle.settings.specs.declared.Settings.{Settings}
+use Rattle.areas.specs.Memory.{Areas, areas}
+use Rattle.record.specs.declared.Answer.{Answer}
+use Rattle.record.specs.declared.Answer.the-variants as answer
+use Rattle.record.specs.declared.Head.{Head}
+use Rattle.record.specs.declared.Reply.{Reply}
+use Rattle.record.specs.Layout.{load, headAt}
+use Rattle.rules.specs.Operations.{Result, result, reply, refused, opening, start, turn}
+use Rattle.rules.specs.Lists.{State, state}
+use Rattle.text.specs.Commands.{command}
+use Rattle.text.specs.declared.Command.{Command}
+use Rattle.text.specs.declared.Command.the-variants.{Sizes, Starts, Turns, Unread}
+use Rattle.text.specs.declared.Printed.{Printed}
+use Rattle.text.specs.declared.Printed.the-variants.{Nothing, Refused}
+use Rattle.run.specs.Program.{Line, line, startLine, turnPrints, turnLine, carried, firstLine}
+
+-- the operation's result, and what is printed of its reply
+pub start-way :
+    (n : ℕ) {r : Reply} {p : Printed} {a : Areas} {x : Result}
+    → p ≡ pick (eqb (r .number) 0) Nothing (Refused n (r .number)) → result r a ≡ x → line p (state (r .settings) a) ≡ startLine n x
+unfolding startLine
+start-way n e f = simp (e, ← f)
+
+-- what a turn prints, by its answer
+pub prints-by :
+    (n i pixel number : ℕ) (a : Answer) {b : Answer} {x : Printed}
+    → a ≡ b → x ≡ turnPrints n i pixel number b → x ≡ turnPrints n i pixel number a
+prints-by n i pixel number a e f = simp (e, f)
+
+pub turn-way :
+    (n i : ℕ) (w : ℕ) (l : List ℕ) {r : Reply} {h : Head} {p : Printed} {a : Areas} {x : Result}
+    → p ≡ turnPrints n i (h .pixel) (r .number) (r .answer) → result r a ≡ x → h ≡ headAt w l i
+    → line p (state (r .settings) a) ≡ turnLine n i (headAt w l i .pixel) x
+unfolding turnLine
+turn-way n i w l e f g = simp (e, g, ← f)
+
+module _ (n : ℕ) (s : Settings) (a : Areas) (c : Command) where
+  pub carried-sizes :
+      (workers limit nodes : ℕ) {p : Printed} {t : Settings}
+      → p ≡ Refused n 10 → t ≡ s → c ≡ Sizes workers limit nodes → line p (state t a) ≡ carried n c (state s a)
+  unfolding carried
+  carried-sizes workers limit nodes e f g = simp (e, f, g)
+
+  pub carried-start :
+      {i row column : ℕ} {x : Line}
+      → x ≡ startLine n (start 3 s i row column a) → c ≡ Starts i row column → x ≡ carried n c (state s a)
+  unfolding carried
+  carried-start e g = simp (g, e)
+
+  pub carried-unread : {p : Printed} {t : Settings} → p ≡ Refused n 10 → t ≡ s → c ≡ Unread → line p (state t a) ≡ carried n c (state s a)
+  unfolding carried
+  carried-unread e f g = simp (e, f, g)
+
+pub carried-turn :
+    (n : ℕ) (s : Settings) (nodes levels workers : List ℕ) (c : Command) {i : ℕ} {x : Line}
+    → x ≡ turnLine n i (headAt 3 workers i .pixel) (turn 3 s i (areas nodes levels workers)) → c ≡ Turns i
+    → x ≡ carried n c (state s (areas nodes levels workers))
+unfolding carried load
+carried-turn n s nodes levels workers c e g = simp (g, e)
+
+-- the first line
+module _ (s : Settings) (a : Areas) where
+  pub sizes-open :
+      {x : Result} → x ≡ opening 3 s a → leb (s .nodes) 128 ≡ true → x ≡ pick (leb (s .nodes) 128) (opening 3 s a) (refused 1 s a)
+  unfolding pick
+  sizes-open e t = simp (t, e)
+
+  pub sizes-refused :
+      {r : Reply} → r ≡ reply 1 answer.Nothing 0 s → leb (s .nodes) 128 ≡ false → result r a ≡ pick (leb (s .nodes) 128) (opening 3 s a) (refused 1 s a)
+  unfolding pick
+  sizes-refused e t = simp (t, e)
+
+module _ (c : Command) (a : Areas) where
+  pub first-sizes :
+      {workers limit nodes : ℕ} {s : Settings} {x : Result}
+      → x ≡ pick (leb (s .nodes) 128) (opening 3 s a) (refused 1 s a) → s ≡ fresh workers limit nodes → c ≡ Sizes workers limit nodes
+      → x ≡ firstLine c a
+  unfolding firstLine fresh
+  first-sizes e f g = simp (g, e, f)
+
+  pub first-start :
+      (i row column : ℕ) {r : Reply} → r ≡ reply 10 answer.Nothing 0 (fresh 0 0 0) → c ≡ Starts i row column → result r a ≡ firstLine c a
+  unfolding firstLine
+  first-start i row column e g = simp (g, e)
+
+  pub first-turn : (i : ℕ) {r : Reply} → r ≡ reply 10 answer.Nothing 0 (fresh 0 0 0) → c ≡ Turns i → result r a ≡ firstLine c a
+  unfolding firstLine
+  first-turn i e g = simp (g, e)
+
+  pub first-unread : {r : Reply} → r ≡ reply 10 answer.Nothing 0 (fresh 0 0 0) → c ≡ Unread → result r a ≡ firstLine c a
+  unfolding firstLine
+  first-unread e g = simp (g, e)
+
+-- a line as its bytes
+module _ (q : List ℕ) where
+  pub carried-read : (n : ℕ) (x : State) {c : Command} {y : Line} → y ≡ carried n c x → c ≡ command q → y ≡ carried n (command q) x
+  carried-read n x e f = simp (e, f)
+
+  pub first-read : (a : Areas) {c : Command} {x : Result} → x ≡ firstLine c a → c ≡ command q → x ≡ firstLine (command q) a
+  first-read a e f = simp (e, f)

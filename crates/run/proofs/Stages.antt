@@ -1,0 +1,250 @@
+-- The ways through a stage of the run: what is told next leaves the rest of what is to be printed.
+-- Relies on the parts of a text, and on the ways through one line.
+use mathlib.Core.Path.{_≡_, refl, sym, ap, subst, _∙_}
+use mathlib.Core.Bool.{Bool, true, false}
+use mathlib.Core.List.{List, [], _∷_}
+use Prim.Native.Nat.{ℕ, suc, _+_, _-_, _≤_, _<_}
+use native.Mathlib.Numerals.{add-one}
+use native.Mathlib.Omega.{arith}
+use lib.Dec.{eqb}
+use lib.ListN.{length, take, drop, length-drop}
+use lib.Seq.{take-all, drop-drop}
+use borrow.Author.Tests.{le-leb, lt-leb, eq-eqb, ne-eqb, ltb-true}
+use Rattle.words.specs.Choice.{pick}
+use Rattle.settings.specs.Sizes.{fresh}
+use Rattle.settings.specs.declared.Settings.{Settings}
+use Rattle.areas.specs.Memory.{Areas}
+use Rattle.record.specs.declared.Reply.{Reply}
+use Rattle.rules.specs.Operations.{result}
+use Rattle.rules.specs.Lists.{State, state}
+use Rattle.text.specs.Parts.{split}
+use Rattle.text.specs.Commands.{command}
+use Rattle.text.specs.Cut.{upTo, past, has}
+use Rattle.text.specs.declared.Printed.{Printed}
+use Rattle.text.specs.declared.Printed.the-variants.{Nothing, Header, Refused, End}
+use Rattle.text.proofs.Parts.{split-has, split-none, split-more, past-drop}
+use Rattle.text.proofs.Ways.{has-place}
+use Rattle.run.specs.declared.Stage.{Stage}
+use Rattle.run.specs.declared.Stage.the-variants.{Begin, TooLong, First, Lines, Last, Done}
+use Rattle.run.specs.declared.Progress.{Progress}
+use Rattle.run.specs.declared.Told.{Told}
+use Rattle.run.specs.declared.Said.{Said}
+use Rattle.run.specs.Program.{line, carried, firstLine, restPrints, linesPrint, openedPrints, inputPrints, prints}
+use Rattle.run.specs.Remaining.{progress, told, begun, remainingAt, remaining, leftAt, left, Counted, FineAt, Fine, Prints, NextAt, Next, goesOn}
+
+-- the choice where the test is known
+pub picks-yes : {A : Type 0} (b : Bool) (y : A) {r x : A} → r ≡ x → b ≡ true → r ≡ pick b x y
+unfolding pick
+picks-yes b y f e = simp (e, f)
+
+pub picks-no : {A : Type 0} (b : Bool) (x : A) {r y : A} → r ≡ y → b ≡ false → r ≡ pick b x y
+unfolding pick
+picks-no b x f e = simp (e, f)
+
+-- where a run begins, and whether it goes on
+pub begin-way : {s : Settings} → s ≡ fresh 0 0 0 → progress Begin 1 0 s ≡ begun
+begin-way e = simp e
+
+pub goes-by : (g : Stage) {h : Stage} {b : Bool} → g ≡ h → b ≡ goesOn h → b ≡ goesOn g
+goes-by g e f = simp (e, f)
+
+-- the input from byte k on, as the code cuts it
+pub rest-cut : (k : ℕ) (l : List ℕ) → take (length l - k) (drop k l) ≡ drop k l
+rest-cut k l = take-all (length l - k) (drop k l) (rw length-drop (omega arith))
+
+-- the line that begins there, by the input from there on
+pub ends-way : (k : ℕ) (input : List ℕ) {l : List ℕ} {b : Bool} → b ≡ has 10 l → l ≡ drop k input → b ≡ has 10 (drop k input)
+ends-way k input e f = simp (e, f)
+
+pub at-way : (k : ℕ) (input : List ℕ) {l q : List ℕ} → q ≡ upTo 10 l → l ≡ drop k input → q ≡ upTo 10 (drop k input)
+at-way k input e f = simp (e, f)
+
+-- the part before the first b is shorter than the whole
+before-shorter : (b : ℕ) (l : List ℕ) → has b l ≡ true → length (upTo b l) < length l
+before-shorter b l h = ltb-true _ _ (has-place b l refl refl ∙ h)
+
+-- a first line, or a later one, that has its byte 10
+inputs-more :
+    (q : List ℕ) (ps : List (List ℕ)) (a : Areas) → 1 ≤ length ps → inputPrints (q ∷ ps) a ≡ openedPrints (firstLine (command q) a) ps
+unfolding inputPrints
+inputs-more q [] a h = absurd (omega arith)
+inputs-more q (p ∷ ps) a h = refl
+
+lines-more :
+    (n : ℕ) (q : List ℕ) (ps : List (List ℕ)) (x : State) → 1 ≤ length ps
+    → linesPrint n (q ∷ ps) x ≡ carried n (command q) x .printed ∷ linesPrint (suc n) ps (carried n (command q) x .state′)
+unfolding linesPrint
+lines-more n q [] x h = absurd (omega arith)
+lines-more n q (p ∷ ps) x h = refl
+
+some-part : (b : ℕ) (l : List ℕ) → 1 ≤ length (split b l)
+some-part b l = rw (split-more b l .2) (omega arith)
+
+module _ (p : Progress) (input : List ℕ) (a : Areas) where
+  -- a stage that is known, and what is told
+  tells :
+      {g : Stage} {b : Areas} {r t : Told}
+      → p .stage ≡ g → r ≡ t → remainingAt g p input a ≡ t .printed ∷ remaining (t .progress) input b → Fine (t .progress) input
+      → left (t .progress) input < leftAt g p input → Prints p input a r b
+  tells {g} {b} {r} {t} e f x y z =
+      let l : left (t .progress) input < left p input = subst (λ (h : Stage). left (t .progress) input < leftAt h p input) (sym e) z in
+      subst (λ (u : Told). Prints p input a u b) (sym f)
+      (record { says = ap (λ (h : Stage). remainingAt h p input a) e ∙ x; fine = y; less = l })
+
+  pub begin-short :
+      {r : Told} → r ≡ told Header (progress First (p .line) (p .at) (p .settings)) → p .stage ≡ Begin → length input ≤ 65536 → Prints p input a r a
+  unfolding remainingAt leftAt FineAt prints pick
+  begin-short f e h = tells e f (simp (le-leb _ _ h)) h (omega arith)
+
+  pub begin-long :
+      {r : Told} → r ≡ told Header (progress TooLong (p .line) (p .at) (p .settings)) → p .stage ≡ Begin → 65536 < length input → Prints p input a r a
+  unfolding remainingAt leftAt FineAt prints pick
+  begin-long f e h = tells e f (simp (lt-leb _ _ h)) tt (omega arith)
+
+  pub too-long :
+      {r : Told} → r ≡ told (Refused 0 10) (progress Done (p .line) (p .at) (p .settings)) → p .stage ≡ TooLong → Prints p input a r a
+  unfolding remainingAt leftAt FineAt
+  too-long f e = tells e f refl tt (omega arith)
+
+  pub last-told :
+      {r : Told} {x : Printed} → r ≡ told x (progress Done (p .line) (p .at) (p .settings))
+      → x ≡ End (p .settings .«nodes_taken») (p .settings .«levels_taken») → p .stage ≡ Last → Prints p input a r a
+  unfolding remainingAt leftAt FineAt
+  last-told f k e = tells e f (simp k) tt (omega arith)
+
+  -- the first line
+  pub first-none :
+      {r : Told} {x : Bool} → r ≡ told (Refused 1 10) (progress Done (p .line) (p .at) (p .settings)) → x ≡ has 10 input → x ≡ false
+      → p .stage ≡ First → Prints p input a r a
+  unfolding remainingAt leftAt FineAt inputPrints
+  first-none f h k e = tells e f (rw (split-none 10 input (sym h ∙ k)) refl) tt (omega arith)
+
+  pub first-told :
+      {r : Reply} {t : Told} {b : Areas} {q : List ℕ} {x : Bool}
+      → t ≡ pick (eqb (r .number) 0) (told Nothing (progress Lines 2 (length q + 1) (r .settings))) (told (Refused 1 (r .number)) (progress Done 2 (length q + 1) (r .settings)))
+      → result r b ≡ firstLine (command q) a → q ≡ upTo 10 input → x ≡ has 10 input → x ≡ true → p .stage ≡ First
+      → length input ≤ 65536 → Prints p input a t b
+  unfolding remainingAt leftAt FineAt openedPrints pick
+  first-told {r} {t} {b} {q} f o u k v e h = go (eqb (r .number) 0) refl
+    where
+      here : has 10 input ≡ true
+      here = sym k ∙ v
+
+      all : inputPrints (split 10 input) a ≡ openedPrints (firstLine (command q) a) (split 10 (drop (length q + 1) input))
+      all =
+          rw (split-has 10 input here)
+          (inputs-more (upTo 10 input) (split 10 (past 10 input)) a (some-part 10 (past 10 input))
+          ∙ (rw (past-drop 10 input, u, add-one) refl))
+
+      go : (z : Bool) → eqb (r .number) 0 ≡ z → Prints p input a t b
+      go true z =
+          let s : length q < length input = rw u (before-shorter 10 input here) in
+          tells e (simp z at f) (all ∙ (simp (← o, z))) (record { line = omega arith; place = omega arith; short = h }) (omega arith)
+      go false z = tells e (simp z at f) (all ∙ (simp (← o, z))) tt (omega arith)
+
+  -- a later line
+  pub line-line : Counted p input → p .line ≤ 65537
+  line-line h = omega arith
+
+  pub line-fits :
+      {q : List ℕ} {x : Bool} → q ≡ upTo 10 (drop (p .at) input) → x ≡ has 10 (drop (p .at) input) → x ≡ true → Counted p input → p .at + length q ≤ 65536
+  line-fits {q} u k v h =
+      let s : length q < length (drop (p .at) input) = rw u (before-shorter 10 (drop (p .at) input) (sym k ∙ v)) in
+      let m : length (drop (p .at) input) ≡ length input - p .at = length-drop (p .at) input in
+      omega arith
+
+  pub line-told :
+      {r : Told} {y : Said} {b : Areas} {q : List ℕ} {x : Bool}
+      → r ≡ told (y .printed) (progress Lines (p .line + 1) (p .at + length q + 1) (y .settings))
+      → line (y .printed) (state (y .settings) b) ≡ carried (p .line) (command q) (state (p .settings) a)
+      → q ≡ upTo 10 (drop (p .at) input) → x ≡ has 10 (drop (p .at) input) → x ≡ true → p .stage ≡ Lines → Counted p input → Prints p input a r b
+  unfolding remainingAt leftAt FineAt
+  line-told {r} {y} {b} {q} f o u k v e h =
+      let rest : List ℕ = drop (p .at) input in
+      let here : has 10 (drop (p .at) input) ≡ true = sym k ∙ v in
+      let s : length q < length (drop (p .at) input) = rw u (before-shorter 10 rest here) in
+      let m : length (drop (p .at) input) ≡ length input - p .at = length-drop (p .at) input in
+      let z : p .at + suc (length q) ≡ p .at + length q + 1 = omega arith in
+      let behind : past 10 (drop (p .at) input) ≡ drop (p .at + length q + 1) input =
+      past-drop 10 rest ∙ (rw (← u, drop-drop (suc (length q)) (p .at) input, z) refl)
+      in
+      let x : State = state (p .settings) a in
+      let w : carried (p .line) (command (upTo 10 rest)) x ≡ line (y .printed) (state (y .settings) b) =
+      sym (o ∙ ap (λ (l : List ℕ). carried (p .line) (command l) x) u)
+      in
+      let all :
+      linesPrint (p .line) (split 10 (drop (p .at) input)) x
+      ≡ y .printed ∷ linesPrint (p .line + 1) (split 10 (drop (p .at + length q + 1) input)) (state (y .settings) b) =
+      rw (split-has 10 rest here)
+      (lines-more (p .line) (upTo 10 rest) (split 10 (past 10 rest)) x (some-part 10 (past 10 rest)) ∙ (rw (w, behind, add-one (p .line)) refl))
+      in
+      tells e f all (record { line = omega arith; place = omega arith; short = h .short }) (omega arith)
+
+  -- what stands behind the last byte 10
+  pub rest-told :
+      {r : Told} {x : Bool}
+      → r ≡ pick (eqb (length input - p .at) 0) (told (End (p .settings .«nodes_taken») (p .settings .«levels_taken»)) (progress Done (p .line) (p .at) (p .settings))) (told (Refused (p .line) 10) (progress Last (p .line) (p .at) (p .settings)))
+      → x ≡ has 10 (drop (p .at) input) → x ≡ false → p .stage ≡ Lines → Prints p input a r a
+  unfolding remainingAt leftAt FineAt restPrints linesPrint pick
+  rest-told {r} f k v e = go (drop (p .at) input) refl (split-none 10 (drop (p .at) input) (sym k ∙ v)) (rw (← length-drop (p .at) input) at f)
+    where
+      go :
+          (l : List ℕ) → drop (p .at) input ≡ l → split 10 (drop (p .at) input) ≡ drop (p .at) input ∷ []
+          → r ≡ pick (eqb (length (drop (p .at) input)) 0) (told (End (p .settings .«nodes_taken») (p .settings .«levels_taken»)) (progress Done (p .line) (p .at) (p .settings))) (told (Refused (p .line) 10) (progress Last (p .line) (p .at) (p .settings)))
+          → Prints p input a r a
+      go [] i j g = tells e (rw i at g) (rw (j, i) refl) tt (omega arith)
+      go (n ∷ l) i j g = tells e (simp (i, ne-eqb (suc (length l)) 0 (λ z. omega arith)) at g) (rw (j, i) refl) tt (omega arith)
+
+  -- no bytes there are the end, others a line that is refused
+  pub rest-end :
+      (y : Told) {r : Told} {x : Printed} {m : ℕ} → r ≡ told x (progress Done (p .line) (p .at) (p .settings))
+      → x ≡ End (p .settings .«nodes_taken») (p .settings .«levels_taken») → m ≡ 0
+      → r ≡ pick (eqb m 0) (told (End (p .settings .«nodes_taken») (p .settings .«levels_taken»)) (progress Done (p .line) (p .at) (p .settings))) y
+  rest-end y f g h = picks-yes _ y (f ∙ (simp g)) (eq-eqb _ _ h)
+
+  -- where a run can stand, at the stage that it is at
+  pub fine-first : Fine p input → p .stage ≡ First → length input ≤ 65536
+  unfolding FineAt
+  fine-first h e = subst (λ (g : Stage). FineAt g p input) e h
+
+  pub fine-lines : Fine p input → p .stage ≡ Lines → Counted p input
+  unfolding FineAt
+  fine-lines h e = subst (λ (g : Stage). FineAt g p input) e h
+
+pub true-false : {A : Type 0} → false ≡ true → A
+true-false q = let z : _≡_ {A = ℕ} 0 1 = cc in absurd (omega arith)
+
+module _ (p : Progress) (input : List ℕ) (a : Areas) (r : Told) (b : Areas) where
+  goes : (g : Stage) → goesOn g ≡ true → Prints p input a r b → NextAt g p input a r b
+  unfolding NextAt goesOn
+  goes Begin h x = x
+  goes TooLong h x = x
+  goes First h x = x
+  goes Lines h x = x
+  goes Last h x = x
+  goes Done h x = true-false h
+
+  went : (g : Stage) → goesOn g ≡ true → NextAt g p input a r b → Prints p input a r b
+  unfolding NextAt goesOn
+  went Begin h x = x
+  went TooLong h x = x
+  went First h x = x
+  went Lines h x = x
+  went Last h x = x
+  went Done h x = true-false h
+
+  -- one thing is printed where the run goes on, and only there
+  pub next-goes : {g : Stage} → Prints p input a r b → p .stage ≡ g → goesOn g ≡ true → Next p input a r b
+  next-goes {g} x e h = goes (p .stage) (ap goesOn e ∙ h) x
+
+  pub next-prints : goesOn (p .stage) ≡ true → Next p input a r b → Prints p input a r b
+  next-prints h x = went (p .stage) h x
+
+-- where all is printed
+pub next-done :
+    (p : Progress) (input : List ℕ) (a : Areas) {r : Told}
+    → r ≡ told Nothing (progress Done (p .line) (p .at) (p .settings)) → p .stage ≡ Done → Next p input a r a
+unfolding NextAt
+next-done p input a {r} f e =
+    let k : r ≡ told Nothing p = f ∙ ap (λ (g : Stage). told Nothing (progress g (p .line) (p .at) (p .settings))) (sym e) in
+    subst (λ (g : Stage). NextAt g p input a r a) (sym e) (k, refl)

@@ -1,0 +1,60 @@
+-- `run::next_lines` meets its contract.
+-- Relies on the ways through a stage.
+use Rattle.run.proofs.Stages.{line-line, line-fits, line-told, rest-told}
+use borrow.Author.Needs.{needs}
+use Rattle.run.proofs.next_lines.Statement.{statement}
+use Rattle.run.proofs.next_lines.Tie as tie
+
+line-ends-requires : tie.Need-line-ends-requires
+line-ends-requires c κs = search needs
+
+line-at-requires : tie.Need-line-at-requires
+line-at-requires c κs = search needs
+
+carry-line-requires : tie.Need-carry-line-requires
+carry-line-requires c κs = search needs
+
+next-line-requires : tie.Need-next-line-requires
+next-line-requires c κs = search (needs, line-line, line-fits)
+
+sub-next-rest : tie.Need-sub-next-rest
+sub-next-rest c = search needs
+
+next-rest-requires : tie.Need-next-rest-requires
+next-rest-requires c κs = search needs
+
+same-length : tie.Need-same-length
+same-length c = search needs
+
+same-length-2 : tie.Need-same-length-2
+same-length-2 c = search needs
+
+same-length-3 : tie.Need-same-length-3
+same-length-3 c = search needs
+
+returns : tie.Need-returns
+returns c =
+    let d = c .before .before .before .before .before .before .before in
+    let e = d .before .before .before .before .before in
+    let g = e .before .before in
+    let h = g .before .before .before .before .before .pre in
+    search (needs, line-told, d .carry-line .ensures, e .line-at .ensures, e .before .if1 .taken, g .line-ends .ensures, h .0, h .1)
+
+returns-2 : tie.Need-returns-2
+returns-2 c = search (needs, rest-told)
+
+pub next-lines-spec : {M : Type 1} → statement M
+next-lines-spec =
+    tie.close
+    (tie.spec
+    line-ends-requires
+    line-at-requires
+    carry-line-requires
+    next-line-requires
+    sub-next-rest
+    next-rest-requires
+    same-length
+    same-length-2
+    same-length-3
+    returns
+    returns-2)

@@ -1,0 +1,4 @@
+-- The run of the text program over its input.
+-- Relies on text and on rules.
+pub mod Program
+pub mod Remaining

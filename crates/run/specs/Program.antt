@@ -1,0 +1,99 @@
+-- The text program: what each line prints and leaves, and the whole run over the bytes of its input.
+-- Relies on the text format and on the operations' definitions.
+use Prim.Native.Nat.{ℕ, suc}
+use mathlib.Core.List.{List, [], _∷_, _++_}
+use lib.Dec.{eqb, leb}
+use lib.ListN.{length, replicate}
+use Rattle.words.specs.Choice.{pick}
+use Rattle.settings.specs.Sizes.{fresh}
+use Rattle.settings.specs.declared.Settings.{Settings}
+use Rattle.areas.specs.Memory.{Areas, areas}
+use Rattle.record.specs.declared.Answer.{Answer}
+use Rattle.record.specs.declared.Answer.the-variants as answer
+use Rattle.rules.specs.Operations.{Result, refused, recordOf, opening, start, turn}
+use Rattle.rules.specs.Lists.{State, after}
+use Rattle.text.specs.Parts.{lineEnd, split}
+use Rattle.text.specs.Commands.{command}
+use Rattle.text.specs.Printing.{bytesOf}
+use Rattle.text.specs.declared.Command.{Command}
+use Rattle.text.specs.declared.Command.the-variants.{Sizes, Starts, Turns, Unread}
+use Rattle.text.specs.declared.Printed.{Printed}
+use Rattle.text.specs.declared.Printed.the-variants.{Nothing, Header, New, Found, Full, Refused, End}
+
+-- what a line prints, and the state that it leaves
+pub record Line : Type 0 where
+  pub printed : Printed
+  pub state′ : State
+
+abbrev pub line : Printed → State → Line
+line p x = record { printed = p; state′ = x }
+
+-- a start prints nothing; "A refused line prints refused,line,number"
+unfoldable pub startLine : ℕ → Result → Line
+startLine n r = line (pick (eqb (r .reply .number) 0) Nothing (Refused n (r .reply .number))) (after r)
+
+-- "A call's row is printed by the turn that ends it, with the call's pixel. .. full .. prints no refused line."
+unfoldable pub turnPrints : ℕ → ℕ → ℕ → ℕ → Answer → Printed
+turnPrints n i pixel number answer.Nothing = Refused n number
+turnPrints n i pixel number (answer.New m) = New i pixel m
+turnPrints n i pixel number (answer.Found m) = Found i pixel m
+turnPrints n i pixel number answer.Full = Full i pixel
+turnPrints n i pixel number answer.Open = Nothing
+
+-- pixel: that of the worker's call, as its record has it before the turn
+unfoldable pub turnLine : ℕ → ℕ → ℕ → Result → Line
+turnLine n i pixel r = line (turnPrints n i pixel (r .reply .number) (r .reply .answer)) (after r)
+
+-- line n, which is not the first: a line of another shape, "also a second s", is 10
+unfoldable pub carried : ℕ → Command → State → Line
+carried n (Sizes workers limit nodes) x = line (Refused n 10) x
+carried n (Starts i row column) x = startLine n (start 3 (x .settings) i row column (x .areas))
+carried n (Turns i) x = turnLine n i (recordOf 3 (x .areas) i .head .pixel) (turn 3 (x .settings) i (x .areas))
+carried n Unread x = line (Refused n 10) x
+
+-- memory of any content with room for 128 nodes, 16 workers and every chain limit: the program lends zeros
+abbrev pub lent : Areas
+lent = areas (replicate 256 0) (replicate 9130 0) (replicate 2048 0)
+
+-- "First line s,workers,limit,nodes (here nodes above 128 is refusal 1)"; another first line does not read
+unfoldable pub firstLine : Command → Areas → Result
+firstLine (Sizes workers limit nodes) a = pick (leb nodes 128) (opening 3 (fresh workers limit nodes) a) (refused 1 (fresh workers limit nodes) a)
+firstLine (Starts i row column) a = refused 10 (fresh 0 0 0) a
+firstLine (Turns i) a = refused 10 (fresh 0 0 0) a
+firstLine Unread a = refused 10 (fresh 0 0 0) a
+
+-- "The last line is the flagged count, which is nodes taken, then levels taken."
+abbrev pub endLine : State → Printed
+endLine x = End (x .settings .«nodes_taken») (x .settings .«levels_taken»)
+
+-- what stands behind the last byte 10, as line n: "An empty input or unended last line is a refused line."
+unfoldable pub restPrints : ℕ → List ℕ → State → List Printed
+restPrints n [] x = endLine x ∷ []
+restPrints n (b ∷ p) x = Refused n 10 ∷ endLine x ∷ []
+
+-- the lines from line n on; the last part has no byte 10 behind it
+unfoldable pub linesPrint : ℕ → List (List ℕ) → State → List Printed
+linesPrint n [] x = []
+linesPrint n (p ∷ []) x = restPrints n p x
+linesPrint n (p ∷ q ∷ ps) x = carried n (command p) x .printed ∷ linesPrint (suc n) (q ∷ ps) (carried n (command p) x .state′)
+
+-- "refused line 1 ends the program without an end line"
+unfoldable pub openedPrints : Result → List (List ℕ) → List Printed
+openedPrints r ps = pick (eqb (r .reply .number) 0) (Nothing ∷ linesPrint 2 ps (after r)) (Refused 1 (r .reply .number) ∷ [])
+
+unfoldable pub inputPrints : List (List ℕ) → Areas → List Printed
+inputPrints [] a = []
+inputPrints (p ∷ []) a = Refused 1 10 ∷ []
+inputPrints (p ∷ q ∷ ps) a = openedPrints (firstLine (command p) a) (q ∷ ps)
+
+-- "The header is always printed. Input above 65,536 bytes gives refused,0,10 after the header and ends."
+unfoldable pub prints : List ℕ → Areas → List Printed
+prints input a = Header ∷ pick (leb (length input) 65536) (inputPrints (split lineEnd input) a) (Refused 0 10 ∷ [])
+
+unfoldable pub spelled : List Printed → List ℕ
+spelled [] = []
+spelled (p ∷ ps) = bytesOf p ++ spelled ps
+
+-- the bytes that the program writes for the bytes that it reads
+abbrev pub output : List ℕ → List ℕ
+output input = spelled (prints input lent)

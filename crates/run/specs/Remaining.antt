@@ -1,0 +1,112 @@
+-- What is still to be printed where a run stands. It follows the code's stages and is tied to the run by the law that at the beginning it is all.
+-- Relies on the definition of the run.
+use Prim.Native.Nat.{ℕ, _+_, _-_, _≤_, _<_}
+use mathlib.Core.Path.{_≡_}
+use mathlib.Core.Bool.{Bool, true, false}
+use mathlib.Core.List.{List, [], _∷_}
+use lib.ListN.{length, drop}
+use Rattle.settings.specs.Sizes.{fresh}
+use Rattle.settings.specs.declared.Settings.{Settings}
+use Rattle.areas.specs.Memory.{Areas}
+use Rattle.rules.specs.Lists.{state}
+use Rattle.text.specs.Parts.{lineEnd, split}
+use Rattle.text.specs.declared.Printed.{Printed}
+use Rattle.text.specs.declared.Printed.the-variants.{Nothing, Refused}
+use Rattle.run.specs.declared.Stage.{Stage}
+use Rattle.run.specs.declared.Stage.the-variants.{Begin, TooLong, First, Lines, Last, Done}
+use Rattle.run.specs.declared.Progress.{Progress}
+use Rattle.run.specs.declared.Told.{Told}
+use Rattle.run.specs.Program.{prints, inputPrints, linesPrint, endLine}
+
+abbrev pub progress : Stage → ℕ → ℕ → Settings → Progress
+progress g n k s = record { stage = g; line = n; at = k; settings = s }
+
+abbrev pub told : Printed → Progress → Told
+told x p = record { printed = x; progress = p }
+
+-- where a run begins
+abbrev pub begun : Progress
+begun = progress Begin 1 0 (fresh 0 0 0)
+
+unfoldable pub remainingAt : Stage → Progress → List ℕ → Areas → List Printed
+remainingAt Begin p input a = prints input a
+remainingAt TooLong p input a = Refused 0 10 ∷ []
+remainingAt First p input a = inputPrints (split lineEnd input) a
+remainingAt Lines p input a = linesPrint (p .line) (split lineEnd (drop (p .at) input)) (state (p .settings) a)
+remainingAt Last p input a = endLine (state (p .settings) a) ∷ []
+remainingAt Done p input a = []
+
+abbrev pub remaining : Progress → List ℕ → Areas → List Printed
+remaining p input a = remainingAt (p .stage) p input a
+
+-- the bytes and stages that are left: each thing printed takes from it, so that a run ends
+unfoldable pub leftAt : Stage → Progress → List ℕ → ℕ
+leftAt Begin p input = length input + 4
+leftAt TooLong p input = 1
+leftAt First p input = length input + 3
+leftAt Lines p input = (length input - p .at) + 2
+leftAt Last p input = 1
+leftAt Done p input = 0
+
+abbrev pub left : Progress → List ℕ → ℕ
+left p input = leftAt (p .stage) p input
+
+-- the next line begins within the input, and there are no more lines than bytes before it: the count of lines does not wrap
+pub record Counted (p : Progress) (input : List ℕ) : Type 0 where
+  pub line : p .line ≤ p .at + 1
+  pub place : p .at ≤ length input
+  pub short : length input ≤ 65536
+
+-- where a run can stand, from its beginning on
+unfoldable pub FineAt : Stage → Progress → List ℕ → Type 0
+FineAt Begin p input = Unit
+FineAt TooLong p input = Unit
+FineAt First p input = length input ≤ 65536
+FineAt Lines p input = Counted p input
+FineAt Last p input = Unit
+FineAt Done p input = Unit
+
+abbrev pub Fine : Progress → List ℕ → Type 0
+Fine p input = FineAt (p .stage) p input
+
+-- one thing is printed, and the rest remains
+pub record Prints (p : Progress) (input : List ℕ) (a : Areas) (r : Told) (b : Areas) : Type 0 where
+  pub says : remaining p input a ≡ r .printed ∷ remaining (r .progress) input b
+  pub fine : Fine (r .progress) input
+  pub less : left (r .progress) input < left p input
+
+-- what is told next: where all is printed, nothing, and nothing changes
+unfoldable pub NextAt : Stage → Progress → List ℕ → Areas → Told → Areas → Type 0
+NextAt Begin p input a r b = Prints p input a r b
+NextAt TooLong p input a r b = Prints p input a r b
+NextAt First p input a r b = Prints p input a r b
+NextAt Lines p input a r b = Prints p input a r b
+NextAt Last p input a r b = Prints p input a r b
+NextAt Done p input a r b = (r ≡ told Nothing p) × (b ≡ a)
+
+abbrev pub Next : Progress → List ℕ → Areas → Told → Areas → Type 0
+Next p input a r b = NextAt (p .stage) p input a r b
+
+-- whether something is still to be printed
+unfoldable pub goesOn : Stage → Bool
+goesOn Begin = true
+goesOn TooLong = true
+goesOn First = true
+goesOn Lines = true
+goesOn Last = true
+goesOn Done = false
+
+-- a thing told, and the areas then
+pub record Stop : Type 0 where
+  pub told : Told
+  pub areas : Areas
+
+-- what is told, one after the other, until the run goes no further
+unfoldable pub Runs : Progress → List ℕ → Areas → List Stop → Type 0
+Runs p input a [] = goesOn (p .stage) ≡ false
+Runs p input a (t ∷ ts) =
+    (goesOn (p .stage) ≡ true) × Next p input a (t .told) (t .areas) × Runs (t .told .progress) input (t .areas) ts
+
+unfoldable pub printedBy : List Stop → List Printed
+printedBy [] = []
+printedBy (t ∷ ts) = t .told .printed ∷ printedBy ts

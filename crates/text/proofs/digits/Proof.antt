@@ -1,0 +1,93 @@
+-- `text::digits` meets its contract.
+-- Relies on the laws of the digits.
+use mathlib.Core.Path.{_≡_}
+use mathlib.Core.List.{_++_}
+use Prim.Native.Nat.{_+_, _≤_}
+use native.Mathlib.Omega.{arith}
+use lib.ListN.{length, drop, length-set}
+use borrow.Author.Needs.{needs}
+use Rattle.text.specs.Printing.{decimal, decimalIn}
+use Rattle.text.proofs.Spelling.{digits-none, digits-more, digits-one, digits-last}
+use Rattle.text.proofs.digits.Statement.{statement}
+use Rattle.text.proofs.digits.Tie as tie
+
+abbrev Inv-loop : tie.InvT-loop
+Inv-loop d₀ n i₀ m₀ d i m = (i ≤ 4) × (length d ≡ 5) × (decimalIn i m ++ drop (i + 1) d ≡ decimal n)
+
+abbrev μ-loop : tie.MeasureT-loop
+μ-loop d₀ n i₀ m₀ d i m = i
+
+loop-holds : tie.Need-loop-holds Inv-loop μ-loop
+loop-holds c = search (needs, digits-none)
+
+cast-d : tie.Need-cast-d Inv-loop μ-loop
+cast-d c = search needs
+
+add-d : tie.Need-add-d Inv-loop μ-loop
+add-d c = search needs
+
+slice-write-d : tie.Need-slice-write-d Inv-loop μ-loop
+slice-write-d c = search needs
+
+same-length : tie.Need-same-length Inv-loop μ-loop
+same-length c = simp length-set (omega arith)
+
+returns : tie.Need-returns Inv-loop μ-loop
+returns c = search (needs, digits-one)
+
+cast-d-2 : tie.Need-cast-d-2 Inv-loop μ-loop
+cast-d-2 c = search needs
+
+add-d-2 : tie.Need-add-d-2 Inv-loop μ-loop
+add-d-2 c = search needs
+
+slice-write-d-2 : tie.Need-slice-write-d-2 Inv-loop μ-loop
+slice-write-d-2 c = search needs
+
+sub-i : tie.Need-sub-i Inv-loop μ-loop
+sub-i c = search needs
+
+loop-less : tie.Need-loop-less Inv-loop μ-loop
+loop-less c = search needs
+
+loop-again : tie.Need-loop-again Inv-loop μ-loop
+loop-again c = search (needs, digits-more, length-set)
+
+cast-d-3 : tie.Need-cast-d-3 Inv-loop μ-loop
+cast-d-3 c = search needs
+
+add-d-3 : tie.Need-add-d-3 Inv-loop μ-loop
+add-d-3 c = search needs
+
+slice-write-d-3 : tie.Need-slice-write-d-3 Inv-loop μ-loop
+slice-write-d-3 c = search needs
+
+same-length-2 : tie.Need-same-length-2 Inv-loop μ-loop
+same-length-2 c = simp length-set (omega arith)
+
+returns-2 : tie.Need-returns-2 Inv-loop μ-loop
+returns-2 c = search (needs, digits-last)
+
+pub digits-spec : {M : Type 1} → statement M
+digits-spec =
+    tie.close
+    (tie.spec
+    Inv-loop
+    μ-loop
+    loop-holds
+    cast-d
+    add-d
+    slice-write-d
+    same-length
+    returns
+    cast-d-2
+    add-d-2
+    slice-write-d-2
+    sub-i
+    loop-less
+    loop-again
+    cast-d-3
+    add-d-3
+    slice-write-d-3
+    same-length-2
+    returns-2)

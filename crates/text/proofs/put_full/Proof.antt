@@ -1,0 +1,41 @@
+-- `text::put_full` meets its contract.
+-- Relies on the pieces of a row.
+use borrow.Author.Needs.{needs}
+use Rattle.text.specs.Parts.{ascii}
+use Rattle.text.proofs.Spelling.{full-steps}
+use Rattle.text.proofs.put_full.Statement.{statement}
+use Rattle.text.proofs.put_full.Tie as tie
+
+put-call-requires : tie.Need-put-call-requires
+put-call-requires c κs = search needs
+
+slice-aggregate-put-bytes : tie.Need-slice-aggregate-put-bytes
+slice-aggregate-put-bytes c = search needs
+
+put-bytes-requires : tie.Need-put-bytes-requires
+put-bytes-requires c κs = search needs
+
+put-byte-requires : tie.Need-put-byte-requires
+put-byte-requires c κs = search needs
+
+same-length : tie.Need-same-length
+same-length c = search needs
+
+returns : tie.Need-returns
+unfolding ascii
+returns c =
+    let z = c .before .before .put-byte in
+    let y = c .before .before .before .before .before .before .put-bytes in
+    let x = c .before .before .before .before .before .before .before .before .before .before .before .put-call in
+    full-steps _ _ (z .ensures .1) (y .ensures .1) (x .ensures .1)
+
+pub put-full-spec : {M : Type 1} → statement M
+put-full-spec =
+    tie.close
+    (tie.spec
+    put-call-requires
+    slice-aggregate-put-bytes
+    put-bytes-requires
+    put-byte-requires
+    same-length
+    returns)
