@@ -13,10 +13,10 @@ for n in $names; do
         echo "readers guide: $n is not declared in $file"; bad=1
     fi
 done
-for crate in rules bench; do
+for crate in rules bench text run; do
     for file in crates/$crate/specs/*.antt; do
         module=$(basename "$file" .antt)
-        case $module in Lib | Everything) continue ;; esac
+        case $module in Lib | Everything | Cut | Remaining) continue ;; esac
         grep -q "\`$crate\.$module\." "$guide" || { echo "readers guide: no name of $crate.$module"; bad=1; }
     done
 done

@@ -3,11 +3,14 @@
 set -eu
 cd "$(dirname "$0")/.."
 sh tests/readers_guide.sh
+# The tests need the library and the program. rt check proves two crates at a time where rt staticlib would prove one after the other.
+rt check export leafdrum
 rt staticlib export
 out=${TMPDIR:-/var/tmp}/leafdrum-tests
 mkdir -p "$out"
 gcc -O2 -Wall -Wextra -Werror examples/embed.c target/staticlib/libexport.a -o "$out/embed"
 "$out/embed" | diff - examples/embed.out
 echo "embed.c: as in embed.out"
+sh tests/documents.sh
 CARGO_NET_OFFLINE=true CARGO_TARGET_DIR="$out/rust" cargo run --release --offline --locked --manifest-path tests/rust/Cargo.toml
 exec rt ci
