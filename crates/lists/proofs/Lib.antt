@@ -1,6 +1,4 @@
 -- What ties the code's cut of a list of turns to its definition.
 -- Relies on rules and turns.
-pub mod Kept
-pub mod Three
 pub mod ListCut
 pub mod Ways

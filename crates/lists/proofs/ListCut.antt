@@ -23,7 +23,7 @@ use Rattle.rules.proofs.Questions.{first-later, first-yes, gives-first-no}
 use Rattle.rules.proofs.OneTurn.{turn-number, six-leaves, eight-leaves}
 use Rattle.rules.proofs.Visits.{none-left}
 use Rattle.lists.specs.Cut.{Run, run, ranBy, ranEntry, ranList, ranResult}
-use Rattle.lists.proofs.Three.{Three, three-stays}
+use Rattle.turns.proofs.Three.{Three, three-stays}
 
 -- a list that has met 6, or whose limit is used up, goes no further
 pub stopped : (w : ℕ) (l : List ℕ) (u : Run) → u .left ≡ 0 → ranList w l u ≡ u
@@ -109,7 +109,7 @@ none-eight : firstNo [] ≢ 8
 unfolding firstNo
 none-eight z = omega arith
 
-eight-idle : (w : ℕ) (x : State) (i : ℕ) → turn w (x .settings) i (x .areas) .reply .number ≡ 8 → question8 (recordOf w (x .areas) i) ≡ false
+pub eight-idle : (w : ℕ) (x : State) (i : ℕ) → turn w (x .settings) i (x .areas) .reply .number ≡ 8 → question8 (recordOf w (x .areas) i) ≡ false
 unfolding turnQuestions
 eight-idle w x i e =
     let (y₁, e₁) = first-later 1 _ _ (λ z. omega arith) (sym (turn-number w (x .settings) i (x .areas)) ∙ e) in

@@ -3,15 +3,15 @@
 use Prim.Native.Nat.{ℕ, zero, suc, _+_, _*_, _-_, _≤_, _<_}
 use mathlib.Core.Path.{_≡_, refl, sym, ap, subst, _∙_}
 use mathlib.Core.Logic.{_≢_}
-use mathlib.Core.Bool.{Bool, true, false}
+use mathlib.Core.Bool.{Bool, true, false, not}
 use mathlib.Core.List.{List, [], _∷_}
 use native.Mathlib.Numerals.{add-one}
 use native.Mathlib.Decide.{ℕ-discrete}
 use native.Mathlib.Omega.{arith}
-use lib.Dec.{eqb, ltb}
+use lib.Dec.{eqb, ltb, leb}
 use lib.ListN.{length, getD, drop, drop-of-length-le}
 use lib.Seq.{drop-cons}
-use borrow.Author.Tests.{eq-eqb, ne-eqb, lt-ltb, le-ltb, ltb-true}
+use borrow.Author.Tests.{eq-eqb, ne-eqb, lt-ltb, le-ltb, ltb-true, le-leb, lt-leb}
 use Rattle.words.specs.Choice.{pick, both, every, asks, firstNo}
 use Rattle.words.proofs.Choice.{pick-both, pick-true, pick-false, both-left, both-right, both-false-left}
 use Rattle.settings.specs.Sizes.{firstThree, Sized}
@@ -20,47 +20,46 @@ use Rattle.settings.proofs.Laws.{three-yes, sized}
 use Rattle.areas.specs.Memory.{Areas, areas}
 use Rattle.record.specs.declared.Answer.the-variants.{Nothing}
 use Rattle.record.specs.declared.Reply.{Reply}
-use Rattle.rules.specs.Asked.{question4, question4All}
+use Rattle.record.specs.Kinds.{kindNo}
+use Rattle.record.specs.Layout.{headAt, load}
+use Rattle.rules.specs.Asked.{question4, question4All, question7, question8}
 use Rattle.rules.specs.Operations.{Result, result, reply, refused, unlessRefused, turn}
 use Rattle.rules.specs.Lists.{State, state, after, turns, turnsResult, visits, listQuestions}
-use Rattle.rules.proofs.OneTurn.{six-leaves, eight-leaves}
+use Rattle.rules.proofs.OneTurn.{six-leaves}
 use Rattle.table.specs.Cut.{firstFour}
-use Rattle.turns.specs.Cut.{turnHere}
-use Rattle.turns.proofs.Ways.{turn-asked, three-inside}
+use Rattle.turns.specs.Cut.{turnHere, idleReply, doneOf, Did, did, didBy, didHere, counted}
+use Rattle.turns.specs.declared.Done.{Done}
+use Rattle.turns.proofs.Ways.{three-of, three-inside, here-idle, here-turn}
 use Rattle.lists.specs.declared.Tally.{Tally}
-use Rattle.lists.specs.Cut.{Run, run, counted, ranOf, tally, talliedOf, overOf, ranBy, ranEntry, ranList, ranResult}
-use Rattle.lists.proofs.Three.{Three, three-stays, SameSizes, sizes-stay}
-use Rattle.lists.proofs.ListCut.{stopped, refused-on, list-cut}
+use Rattle.lists.specs.Cut.{Run, run, countedBy, ranOf, tally, idleTally, openTally, overOf, ranBy, ranEntry, ranList, ranResult}
+use Rattle.turns.proofs.Three.{Three, three-stays, SameSizes, sizes-stay}
+use Rattle.lists.proofs.ListCut.{stopped, refused-on, eight-idle, list-cut}
+
+true-false : true ≡ false → ⊥
+true-false q = let z : _≡_ {A = ℕ} 0 1 = cc in omega arith
 
 -- questions 1 to 3 as the code asks them
-module _ (w : ℕ) (s : Settings) (n g k : List ℕ) where
-  pub three-of : firstThree w s (length n) (length g) (length k) ≡ 0 → Three w (s .workers) (state s (areas n g k))
-  three-of e = let y = three-yes w s (length n) (length g) (length k) e in record { crew-is = refl; one = y .0; two = y .1; three = y .2 }
+pub of-three : (w : ℕ) (s : Settings) (n g k : List ℕ) {crew : ℕ} → Three w crew (state s (areas n g k)) → firstThree w s (length n) (length g) (length k) ≡ 0
+unfolding firstThree firstNo pick
+of-three w s n g k y = simp (y .one, y .two, y .three)
 
-  pub of-three : {crew : ℕ} → Three w crew (state s (areas n g k)) → firstThree w s (length n) (length g) (length k) ≡ 0
-  unfolding firstThree firstNo pick
-  of-three y = simp (y .one, y .two, y .three)
-
--- with questions 1 to 4 answered yes, what is left of a turn is the turn
-here-turn : (w : ℕ) (s : Settings) (i : ℕ) (n g k : List ℕ) → firstThree w s (length n) (length g) (length k) ≡ 0 → i < s .workers → turnHere w s i (areas n g k) ≡ turn w s i (areas n g k)
-unfolding firstFour question4
-here-turn w s i n g k e h =
-    let z : firstFour w s i (length n) (length g) (length k) ≡ 0 = pick-true _ _ _ (eq-eqb _ _ e) ∙ pick-true _ 0 4 (lt-ltb i (s .workers) h) in
-    turn-asked w s i n g k refl (sym z) refl
-
--- the tally after an entry's turn, and whether the list goes no further
+-- the tally after an entry, and whether the list goes no further
 module _ (t : Tally) where
-  pub tallied-eight : (r : Reply) → r .number ≡ 8 → t ≡ talliedOf t r
-  unfolding talliedOf
-  tallied-eight r z = sym (pick-true _ _ _ (eq-eqb _ _ z))
+  pub idle-skipped : (v : ℕ) → v ≤ 3 → t ≡ idleTally t v
+  unfolding idleTally
+  idle-skipped v e = sym (pick-true _ _ _ (le-leb _ _ e))
 
-  pub tallied-six : (r : Reply) → (r .number ≡ 8 → ⊥) → r .number ≡ 6 → tally 6 (t .«nodes_taken») (t .«levels_taken») (t .left) ≡ talliedOf t r
-  unfolding talliedOf
-  tallied-six r h z = sym (pick-false _ _ _ (ne-eqb _ _ h) ∙ pick-true _ _ _ (eq-eqb _ _ z))
+  pub idle-spoiled : (v : ℕ) {u : Tally} → u ≡ tally 6 (t .«nodes_taken») (t .«levels_taken») (t .left) → 3 < v → u ≡ idleTally t v
+  unfolding idleTally
+  idle-spoiled v a e = a ∙ sym (pick-false _ _ _ (lt-leb _ _ e))
 
-  pub tallied-done : (r : Reply) → (r .number ≡ 8 → ⊥) → (r .number ≡ 6 → ⊥) → tally 0 (r .settings .«nodes_taken») (r .settings .«levels_taken») (t .left - 1) ≡ talliedOf t r
-  unfolding talliedOf
-  tallied-done r h g = sym (pick-false _ _ _ (ne-eqb _ _ h) ∙ pick-false _ _ _ (ne-eqb _ _ g))
+  pub open-six : (d : Done) {u : Tally} → u ≡ tally 6 (t .«nodes_taken») (t .«levels_taken») (t .left) → d .number ≡ 6 → u ≡ openTally t d
+  unfolding openTally
+  open-six d a z = a ∙ sym (pick-true _ _ _ (eq-eqb _ _ z))
+
+  pub open-on : (d : Done) → (d .number ≡ 6 → ⊥) → tally 0 (d .«nodes_taken») (d .«levels_taken») (t .left - 1) ≡ openTally t d
+  unfolding openTally
+  open-on d h = sym (pick-false _ _ _ (ne-eqb _ _ h))
 
   pub over-left : t .left ≡ 0 → true ≡ overOf t
   unfolding overOf
@@ -74,68 +73,115 @@ module _ (t : Tally) where
   unfolding overOf
   over-six h g = sym (pick-false _ _ _ (ne-eqb _ _ h) ∙ pick-false _ _ _ (ne-eqb _ _ g))
 
-  pub ended-is : (s : Settings) (limit : ℕ) {d : ℕ} {n : Settings} → d ≡ limit - t .left → n ≡ counted s t → reply (t .number) Nothing d n ≡ reply (t .number) Nothing (limit - t .left) (counted s t)
+  -- a list that is not over goes on
+  pub goes-left : {b : Bool} → b ≡ overOf t → b ≡ false → 1 ≤ t .left
+  unfolding overOf
+  goes-left e z = by (ℕ-discrete (t .left) 0)
+    where
+      by : Dec (t .left ≡ 0) → 1 ≤ t .left
+      by (yes y) = absurd (true-false (sym (pick-true _ _ _ (eq-eqb _ _ y)) ∙ sym e ∙ z))
+      by (no h) = omega arith
+
+  pub goes-zero : {b : Bool} → b ≡ overOf t → b ≡ false → t .number ≡ 0
+  unfolding overOf
+  goes-zero e z = by (ℕ-discrete (t .left) 0) (ℕ-discrete (t .number) 0)
+    where
+      by : Dec (t .left ≡ 0) → Dec (t .number ≡ 0) → t .number ≡ 0
+      by (yes y) d = absurd (true-false (sym (pick-true _ _ _ (eq-eqb _ _ y)) ∙ sym e ∙ z))
+      by (no h) (yes y) = y
+      by (no h) (no g) = absurd (true-false (sym (pick-false _ _ _ (ne-eqb _ _ h) ∙ pick-false _ _ _ (ne-eqb _ _ g)) ∙ sym e ∙ z))
+
+  pub ended-is : (s : Settings) (limit : ℕ) {d : ℕ} {n : Settings} → d ≡ limit - t .left → n ≡ countedBy s t → reply (t .number) Nothing d n ≡ reply (t .number) Nothing (limit - t .left) (countedBy s t)
   ended-is s limit e f = rw (e, f) refl
 
 -- the settings of a turn that leaves the sizes, by its counts
-pub with-counts : (s : Settings) (t : Tally) → record { workers = s .workers; limit = s .limit; nodes = s .nodes; «nodes_taken» = t .«nodes_taken»; «levels_taken» = t .«levels_taken» } ≡ counted s t
+pub with-counts : (s : Settings) (n g : ℕ) → record { workers = s .workers; limit = s .limit; nodes = s .nodes; «nodes_taken» = n; «levels_taken» = g } ≡ counted s n g
 unfolding counted
-with-counts s t = refl
+with-counts s n g = refl
 
-counted-is : (s n : Settings) (l : ℕ) → SameSizes s n → counted s (tally 0 (n .«nodes_taken») (n .«levels_taken») l) ≡ n
+counted-is : (s n : Settings) → SameSizes s n → counted s (n .«nodes_taken») (n .«levels_taken») ≡ n
 unfolding counted
-counted-is s n l k = rw (← k .workers-is, ← k .limit-is, ← k .nodes-is) refl
+counted-is s n k = rw (← k .workers-is, ← k .limit-is, ← k .nodes-is) refl
 
--- one entry of a list
-module _ (w : ℕ) (s : Settings) (t : Tally) (i : ℕ) where
-  pub entry-stop : (a : Areas) → t .left ≡ 0 → ranOf s t a ≡ ranEntry w (ranOf s t a) i
+same-sizes : (s n : Settings) (i g : ℕ) → SameSizes (counted s i g) n → SameSizes s n
+unfolding counted
+same-sizes s n i g y = record { workers-is = y .workers-is; limit-is = y .limit-is; nodes-is = y .nodes-is }
+
+-- one entry of a list that goes on
+module _ (w : ℕ) (s : Settings) (t : Tally) (i : ℕ) (n g k : List ℕ) (z : t .number ≡ 0) (h : 1 ≤ t .left) (r : firstThree w (countedBy s t) (length n) (length g) (length k) ≡ 0) (l : i < s .workers) where
+  abbrev now : Settings
+  now = countedBy s t
+
+  abbrev its : Result
+  its = turn w (countedBy s t) i (areas n g k)
+
+  entry-by : ranEntry w (ranOf s t (areas n g k)) i ≡ ranBy (ranOf s t (areas n g k)) its
   unfolding ranEntry
-  entry-stop a z = sym (pick-true _ _ _ (eq-eqb _ _ z))
+  entry-by = pick-false _ _ _ (ne-eqb (t .left) 0 (λ y. omega arith)) ∙ pick-true _ _ _ (eq-eqb _ _ z)
 
-  pub entry-over : (a : Areas) → (t .left ≡ 0 → ⊥) → (t .number ≡ 0 → ⊥) → ranOf s t a ≡ ranEntry w (ranOf s t a) i
-  unfolding ranEntry
-  entry-over a h z = sym (pick-false _ _ _ (ne-eqb _ _ h) ∙ pick-false _ _ _ (ne-eqb _ _ z))
+  -- with questions 1 to 4 answered yes, what is left of a turn is the turn
+  turn-is : turnHere w now i (areas n g k) ≡ its
+  unfolding firstFour question4 counted
+  turn-is =
+      let y : firstFour w now i (length n) (length g) (length k) ≡ 0 = pick-true _ _ _ (eq-eqb _ _ r) ∙ pick-true _ 0 4 (lt-ltb i (s .workers) l) in
+      here-turn w now i n g k refl y
 
-  ran-by : (a : Areas) {r : Reply} {b : Areas} → result r b ≡ turn w (counted s t) i a → SameSizes s (r .settings) → ranOf s (talliedOf t r) b ≡ ranBy (ranOf s t a) (turn w (counted s t) i a)
-  unfolding talliedOf ranBy counted
-  ran-by a {r} {b} e k = by (ℕ-discrete (r .number) 6) (ℕ-discrete (r .number) 8)
+  by-six : {u : Run} → its .reply .number ≡ 6 → u ≡ run 6 (state now (areas n g k)) (t .left) → u ≡ ranEntry w (ranOf s t (areas n g k)) i
+  unfolding ranBy
+  by-six y e = e ∙ sym (entry-by ∙ pick-true _ _ _ (eq-eqb _ _ y))
+
+  -- an idle worker
+  pub entry-idle : {u : Tally} {b : Bool} {v : ℕ} → u ≡ idleTally t v → v ≡ headAt w k i .answer → b ≡ eqb (kindNo (headAt w k i .kind)) 0 → b ≡ true → ranOf s u (areas n g k) ≡ ranEntry w (ranOf s t (areas n g k)) i
+  unfolding idleTally idleReply ranBy
+  entry-idle {u} {b} {v} f e q y = by (leb v 3) refl (here-idle w now i n g k refl e q y ∙ turn-is)
     where
-      number-is : turn w (counted s t) i a .reply .number ≡ r .number
-      number-is = sym (ap (λ (x : Result). x .reply .number) e)
+      by : (d : Bool) → leb v 3 ≡ d → result (idleReply now v) (areas n g k) ≡ its → ranOf s u (areas n g k) ≡ ranEntry w (ranOf s t (areas n g k)) i
+      by true d x =
+          let m : its .reply .number ≡ 8 = sym (ap (λ (o : Result). o .reply .number) x) ∙ ap (λ (o : Reply). o .number) (pick-true _ _ _ d) in
+          ap (λ (o : Tally). ranOf s o (areas n g k)) (f ∙ pick-true _ _ _ d)
+          ∙ sym (entry-by ∙ pick-false _ _ _ (ne-eqb (its .reply .number) 6 (λ o. omega arith)) ∙ pick-true _ _ _ (eq-eqb _ _ m))
+      by false d x =
+          let m : its .reply .number ≡ 6 = sym (ap (λ (o : Result). o .reply .number) x) ∙ ap (λ (o : Reply). o .number) (pick-false _ _ _ d) in
+          by-six m (ap (λ (o : Tally). ranOf s o (areas n g k)) (f ∙ pick-false _ _ _ d))
 
-      same-areas : after (turn w (counted s t) i a) ≡ state (counted s t) a → b ≡ a
-      same-areas z = ap (λ (x : Result). x .areas) e ∙ ap (λ (x : State). x .areas) z
+  -- a worker with a call open is not refused by 8
+  not-eight : 1 ≤ kindNo (headAt w k i .kind) → its .reply .number ≢ 8
+  unfolding question8 question7 load
+  not-eight o e =
+      let y : not (eqb (kindNo (headAt w k i .kind)) 0) ≡ false = eight-idle w (state now (areas n g k)) i e in
+      let v : not (eqb (kindNo (headAt w k i .kind)) 0) ≡ true = ap not (ne-eqb (kindNo (headAt w k i .kind)) 0 (λ p. omega arith)) in
+      true-false (sym v ∙ y)
 
-      by : Dec (r .number ≡ 6) → Dec (r .number ≡ 8) → ranOf s (talliedOf t r) b ≡ ranBy (ranOf s t a) (turn w (counted s t) i a)
-      by (yes z) d =
-          ap (λ (u : Tally). ranOf s u b) (pick-false _ _ _ (ne-eqb (r .number) 8 (λ y. omega arith)) ∙ pick-true _ _ _ (eq-eqb _ _ z))
-          ∙ ap (λ (y : Areas). run 6 (state (counted s t) y) (t .left)) (same-areas (six-leaves w (counted s t) i a (number-is ∙ z)))
-          ∙ sym (pick-true _ _ _ (eq-eqb _ _ (number-is ∙ z)))
-      by (no h) (yes z) =
-          ap (λ (u : Tally). ranOf s u b) (pick-true _ _ _ (eq-eqb _ _ z))
-          ∙ ap (λ (y : Areas). run (t .number) (state (counted s t) y) (t .left)) (same-areas (eight-leaves w (counted s t) i a (number-is ∙ z)))
-          ∙ sym (pick-false _ _ _ (ne-eqb _ 6 (λ y. h (sym number-is ∙ y))) ∙ pick-true _ _ _ (eq-eqb _ _ (number-is ∙ z)))
-      by (no h) (no g) =
-          ap (λ (u : Tally). ranOf s u b) (pick-false _ _ _ (ne-eqb _ 8 g) ∙ pick-false _ _ _ (ne-eqb _ 6 h))
-          ∙ ap (λ (n : Settings). run 0 (state n b) (t .left - 1)) (counted-is s (r .settings) (t .left - 1) k)
-          ∙ ap (λ (x : Result). run 0 (after x) (t .left - 1)) e
-          ∙ sym (pick-false _ _ _ (ne-eqb _ 6 (λ y. h (sym number-is ∙ y))) ∙ pick-false _ _ _ (ne-eqb _ 8 (λ y. g (sym number-is ∙ y))))
+  pub entry-open : {u : Tally} {d : Done} {b : Areas} {m : Settings} → u ≡ openTally t d → did d b ≡ didHere w m i (areas n g k) → m ≡ now → 1 ≤ kindNo (headAt w k i .kind) → ranOf s u b ≡ ranEntry w (ranOf s t (areas n g k)) i
+  unfolding openTally ranBy didBy doneOf
+  entry-open {u} {d} {b} {m} f e p o = by (ℕ-discrete (its .reply .number) 6)
+    where
+      x : turnHere w m i (areas n g k) ≡ its
+      x = ap (λ (y : Settings). turnHere w y i (areas n g k)) p ∙ turn-is
 
-  pub entry-go : (n g k : List ℕ) {u : Tally} {r : Reply} {b : Areas} {m : Settings} → u ≡ talliedOf t r → result r b ≡ turnHere w m i (areas n g k) → m ≡ counted s t → t .number ≡ 0 → (t .left ≡ 0 → ⊥) → firstThree w (counted s t) (length n) (length g) (length k) ≡ 0 → i < s .workers → ranOf s u b ≡ ranEntry w (ranOf s t (areas n g k)) i
-  unfolding ranEntry counted
-  entry-go n g k {u} {r} {b} {m} f e p z h q l =
-      let c : result r b ≡ turn w (counted s t) i (areas n g k) = e ∙ ap (λ (x : Settings). turnHere w x i (areas n g k)) p ∙ here-turn w (counted s t) i n g k q l in
-      let y : SameSizes (counted s t) (r .settings) = rw (← c) at (sizes-stay w (state (counted s t) (areas n g k)) i (three-of w (counted s t) n g k q)) in
-      let v : SameSizes s (r .settings) = record { workers-is = y .workers-is; limit-is = y .limit-is; nodes-is = y .nodes-is } in
-      rw f (ran-by (areas n g k) c v ∙ sym (pick-false _ _ _ (ne-eqb _ _ h) ∙ pick-true _ _ _ (eq-eqb _ _ z)))
+      did-is : did d b ≡ did (doneOf (its .reply)) (its .areas)
+      did-is = e ∙ ap didBy x
+
+      by : Dec (its .reply .number ≡ 6) → ranOf s u b ≡ ranEntry w (ranOf s t (areas n g k)) i
+      by (yes y) =
+          let c : d .number ≡ 6 = ap (λ (v : Did). v .done .number) did-is ∙ y in
+          let a : b ≡ areas n g k = ap (λ (v : Did). v .areas) did-is ∙ ap (λ (v : State). v .areas) (six-leaves w now i (areas n g k) y) in
+          by-six y (ap (λ (v : Tally). ranOf s v b) (f ∙ pick-true _ _ _ (eq-eqb _ _ c)) ∙ ap (λ (v : Areas). run 6 (state now v) (t .left)) a)
+      by (no y) =
+          let c : d .number ≡ its .reply .number = ap (λ (v : Did). v .done .number) did-is in
+          let q = same-sizes s (its .reply .settings) _ _ (sizes-stay w (state now (areas n g k)) i (three-of w now n g k r)) in
+          ap (λ (v : Tally). ranOf s v b) (f ∙ pick-false _ _ _ (ne-eqb (d .number) 6 (λ v. y (sym c ∙ v))))
+          ∙ ap (λ (v : Did). run 0 (state (counted s (v .done .«nodes_taken») (v .done .«levels_taken»)) (v .areas)) (t .left - 1)) did-is
+          ∙ ap (λ (v : Settings). run 0 (state v (its .areas)) (t .left - 1)) (counted-is s (its .reply .settings) q)
+          ∙ sym (entry-by ∙ pick-false _ _ _ (ne-eqb (its .reply .number) 6 y) ∙ pick-false _ _ _ (ne-eqb (its .reply .number) 8 (not-eight o)))
 
 -- where a list begins
 module _ (s : Settings) (limit : ℕ) (n g k : List ℕ) where
-  begin-is : counted s (tally 0 (s .«nodes_taken») (s .«levels_taken») limit) ≡ s
+  begin-is : counted s (s .«nodes_taken») (s .«levels_taken») ≡ s
   unfolding counted
   begin-is = refl
 
-  pub begin-three : firstThree 3 s (length n) (length g) (length k) ≡ 0 → Three 3 (s .workers) (state (counted s (tally 0 (s .«nodes_taken») (s .«levels_taken») limit)) (areas n g k))
+  pub begin-three : firstThree 3 s (length n) (length g) (length k) ≡ 0 → Three 3 (s .workers) (state (countedBy s (tally 0 (s .«nodes_taken») (s .«levels_taken») limit)) (areas n g k))
   begin-three e = rw begin-is (three-of 3 s n g k e)
 
   pub begin-list : (l : List ℕ) → ranList 3 l (ranOf s (tally 0 (s .«nodes_taken») (s .«levels_taken») limit) (areas n g k)) ≡ ranList 3 l (run 0 (state s (areas n g k)) limit)
@@ -143,12 +189,12 @@ module _ (s : Settings) (limit : ℕ) (n g k : List ℕ) where
 
 -- an entry's turn has what it requires
 module _ (s : Settings) (t : Tally) (i n g k : ℕ) where
-  pub entry-sized : {m : Settings} → m ≡ counted s t → firstThree 3 (counted s t) n g k ≡ 0 → Sized m
-  entry-sized e f = rw e (sized (counted s t) n g k f)
+  pub entry-sized : {m : Settings} → m ≡ countedBy s t → firstThree 3 (countedBy s t) n g k ≡ 0 → Sized m
+  entry-sized e f = rw e (sized (countedBy s t) n g k f)
 
-  pub entry-inside : firstThree 3 (counted s t) n g k ≡ 0 → i < s .workers → 128 * i + 128 ≤ k
+  pub entry-inside : firstThree 3 (countedBy s t) n g k ≡ 0 → i < s .workers → 128 * i + 128 ≤ k
   unfolding counted
-  entry-inside f h = three-inside (counted s t) i n g k f h
+  entry-inside f h = three-inside (countedBy s t) i n g k f h
 
 -- an entry leaves questions 1 to 3 answered yes
 ran-keeps : (w : ℕ) {crew : ℕ} (u : Run) (i : ℕ) → Three w crew (u .state′) → Three w crew (ranEntry w u i .state′)
@@ -160,7 +206,7 @@ ran-keeps w {crew} u i y =
     (λ f. pick-both (λ (v : Run). Three w crew (v .state′)) _ (λ p. y) (λ p. pick-both (λ (v : Run). Three w crew (v .state′)) _ (λ q. y) (λ q. three-stays w (u .state′) i y)))
     (λ f. y))
 
-pub entry-keeps : (w : ℕ) {crew : ℕ} (s : Settings) (t u : Tally) (i : ℕ) (a b : Areas) → ranOf s u b ≡ ranEntry w (ranOf s t a) i → Three w crew (state (counted s t) a) → Three w crew (state (counted s u) b)
+pub entry-keeps : (w : ℕ) {crew : ℕ} (s : Settings) (t u : Tally) (i : ℕ) (a b : Areas) → ranOf s u b ≡ ranEntry w (ranOf s t a) i → Three w crew (state (countedBy s t) a) → Three w crew (state (countedBy s u) b)
 entry-keeps w {crew} s t u i a b e y = subst (λ (v : Run). Three w crew (v .state′)) (sym e) (ran-keeps w (ranOf s t a) i y)
 
 -- the entries of a list
@@ -177,9 +223,6 @@ pub list-over : (w : ℕ) (l : List ℕ) (s : Settings) (t : Tally) (a : Areas) 
 unfolding overOf
 list-over w l s t a {b} {x} e f z = by (ℕ-discrete (t .left) 0) (ℕ-discrete (t .number) 0)
   where
-    true-false : true ≡ false → ⊥
-    true-false q = let z : _≡_ {A = ℕ} 0 1 = cc in omega arith
-
     by : Dec (t .left ≡ 0) → Dec (t .number ≡ 0) → ranOf s t a ≡ x
     by (yes y) d = sym (stopped w l (ranOf s t a) y) ∙ e
     by (no h) (no g) = sym (refused-on w l (ranOf s t a) g) ∙ e
@@ -252,7 +295,7 @@ module _ (w : ℕ) (s : Settings) (l : List ℕ) (limit : ℕ) (n g k : List ℕ
       ap (λ (y : Reply). result y (areas n g k)) a
       ∙ list-no (list-first ∙ pick-true _ _ _ (eq-eqb _ _ (sym e ∙ z)) ∙ pick-false _ _ _ (sym f ∙ y)) (λ y. omega arith)
 
-  pub turns-done : (t : Tally) {r : Reply} {x : Areas} {q : ℕ} {b : Bool} → r ≡ reply (t .number) Nothing (limit - t .left) (counted s t) → ranOf s t x ≡ ranList w l (run 0 (state s (areas n g k)) limit) → b ≡ every (λ i. ltb i (s .workers)) l → b ≡ true → q ≡ firstThree w s (length n) (length g) (length k) → q ≡ 0 → result r x ≡ turns w s l limit (areas n g k)
+  pub turns-done : (t : Tally) {r : Reply} {x : Areas} {q : ℕ} {b : Bool} → r ≡ reply (t .number) Nothing (limit - t .left) (countedBy s t) → ranOf s t x ≡ ranList w l (run 0 (state s (areas n g k)) limit) → b ≡ every (λ i. ltb i (s .workers)) l → b ≡ true → q ≡ firstThree w s (length n) (length g) (length k) → q ≡ 0 → result r x ≡ turns w s l limit (areas n g k)
   unfolding turns unlessRefused ranResult question4All question4
   turns-done t {r} {x} {q} {b} a p f y e z =
       let y₃ = three-yes w s (length n) (length g) (length k) (sym e ∙ z) in

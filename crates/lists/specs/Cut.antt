@@ -3,14 +3,15 @@
 use Prim.Native.Nat.{ℕ, _-_}
 use mathlib.Core.Bool.{Bool, true, false}
 use mathlib.Core.List.{List, [], _∷_}
-use lib.Dec.{eqb}
+use lib.Dec.{eqb, leb}
 use Rattle.words.specs.Choice.{pick}
 use Rattle.settings.specs.declared.Settings.{Settings}
 use Rattle.areas.specs.Memory.{Areas}
 use Rattle.record.specs.declared.Answer.the-variants.{Nothing}
-use Rattle.record.specs.declared.Reply.{Reply}
 use Rattle.rules.specs.Operations.{Result, result, reply, turn}
 use Rattle.rules.specs.Lists.{State, state, after}
+use Rattle.turns.specs.Cut.{counted}
+use Rattle.turns.specs.declared.Done.{Done}
 use Rattle.lists.specs.declared.Tally.{Tally}
 
 -- where a list of turns stands: 0 or 6, the state, and the turns that may still be done
@@ -43,29 +44,24 @@ unfoldable pub ranResult : ℕ → Run → Result
 ranResult limit u = result (reply (u .number) Nothing (limit - u .left) (u .state′ .settings)) (u .state′ .areas)
 
 -- the list's settings with the counts of the code's tally, and the tally with the areas
-unfoldable pub counted : Settings → Tally → Settings
-counted s t =
-    record {
-      workers = s .workers;
-      limit = s .limit;
-      nodes = s .nodes;
-      «nodes_taken» = t .«nodes_taken»;
-      «levels_taken» = t .«levels_taken»;
-    }
+abbrev pub countedBy : Settings → Tally → Settings
+countedBy s t = counted s (t .«nodes_taken») (t .«levels_taken»)
 
 abbrev pub ranOf : Settings → Tally → Areas → Run
-ranOf s t a = run (t .number) (state (counted s t) a) (t .left)
+ranOf s t a = run (t .number) (state (countedBy s t) a) (t .left)
 
--- the tally after an entry's turn
+-- the tally after an idle worker's entry, and after a turn
 abbrev pub tally : ℕ → ℕ → ℕ → ℕ → Tally
 tally n i g l = record { number = n; «nodes_taken» = i; «levels_taken» = g; left = l }
 
-unfoldable pub talliedOf : Tally → Reply → Tally
-talliedOf t r =
-    pick (eqb (r .number) 8) t
-    (pick (eqb (r .number) 6)
+unfoldable pub idleTally : Tally → ℕ → Tally
+idleTally t answer = pick (leb answer 3) t (tally 6 (t .«nodes_taken») (t .«levels_taken») (t .left))
+
+unfoldable pub openTally : Tally → Done → Tally
+openTally t d =
+    pick (eqb (d .number) 6)
     (tally 6 (t .«nodes_taken») (t .«levels_taken») (t .left))
-    (tally 0 (r .settings .«nodes_taken») (r .settings .«levels_taken») (t .left - 1)))
+    (tally 0 (d .«nodes_taken») (d .«levels_taken») (t .left - 1))
 
 -- whether a list goes no further
 unfoldable pub overOf : Tally → Bool

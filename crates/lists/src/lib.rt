@@ -8,14 +8,19 @@ ghost use lib.ListN.{length};
 ghost use Rattle.words.specs.Choice.{every};
 ghost use Rattle.settings.specs.Sizes.{firstThree};
 ghost use Rattle.areas.specs.Memory.{areas};
+ghost use Rattle.record.specs.Kinds.{kindNo};
+ghost use Rattle.record.specs.Layout.{headAt};
 ghost use Rattle.rules.specs.Operations.{result, reply};
 ghost use Rattle.rules.specs.Lists.{state, turns};
-ghost use Rattle.lists.specs.Cut.{run, counted, ranOf, talliedOf, overOf, ranEntry, ranList};
+ghost use Rattle.lists.specs.Cut.{run, countedBy, ranOf, tally, idleTally, openTally, overOf, ranEntry, ranList};
 use record::Answer;
 use record::Reply;
+use record::answer_at;
+use record::idle_at;
 use settings::Settings;
 use table::refusal;
-use turns::turn_here;
+use turns::Done;
+use turns::open_here;
 
 // Where a list of turns stands: 0 or 6, nodes taken, levels taken, and the turns that may still be done. A turn changes no other setting.
 pub struct Tally {
@@ -27,7 +32,7 @@ pub struct Tally {
 
 // The list's settings with the counts that it has come to.
 fn with_counts(s: Settings, t: Tally) -> Settings
-    ensures { λ r. ⌜ r ≡ counted s t ⌝ }
+    ensures { λ r. ⌜ r ≡ countedBy s t ⌝ }
 {
     let mut n = s;
     n.nodes_taken = t.nodes_taken;
@@ -35,33 +40,64 @@ fn with_counts(s: Settings, t: Tally) -> Settings
     n
 }
 
-// The tally after an entry's turn: ended by a 6, passed over where the worker is idle, else one turn less is left.
-fn tallied(t: Tally, r: Reply) -> Tally
-    requires { ⌜ 1 ≤ t .left ⌝ }
-    ensures { λ u. ⌜ u ≡ talliedOf t r ⌝ }
+// The tally after a 6: nothing else has changed.
+fn ended_six(t: Tally) -> Tally
+    ensures { λ u. ⌜ u ≡ tally 6 (t .«nodes_taken») (t .«levels_taken») (t .left) ⌝ }
 {
-    let n = r.number;
-    if n == 8 {
-        return t;
-    }
-    if n == 6 {
-        return Tally {
-            number: 6,
-            nodes_taken: t.nodes_taken,
-            levels_taken: t.levels_taken,
-            left: t.left,
-        };
-    }
-    let s = r.settings;
     Tally {
-        number: 0,
-        nodes_taken: s.nodes_taken,
-        levels_taken: s.levels_taken,
-        left: t.left - 1,
+        number: 6,
+        nodes_taken: t.nodes_taken,
+        levels_taken: t.levels_taken,
+        left: t.left,
     }
 }
 
-// One entry of a list of turns.
+// An entry whose worker is idle, by the number of its last answer: it is skipped, or its record does not fit.
+fn idle_entry(t: Tally, answer: u32) -> Tally
+    ensures { λ u. ⌜ u ≡ idleTally t answer ⌝ }
+{
+    if answer <= 3 { t } else { ended_six(t) }
+}
+
+// The tally after the turn of a worker with a call open: ended by a 6, else one turn less is left.
+fn tallied(t: Tally, d: Done) -> Tally
+    requires { ⌜ 1 ≤ t .left ⌝ }
+    ensures { λ u. ⌜ u ≡ openTally t d ⌝ }
+{
+    if d.number == 6 {
+        ended_six(t)
+    } else {
+        Tally {
+            number: 0,
+            nodes_taken: d.nodes_taken,
+            levels_taken: d.levels_taken,
+            left: t.left - 1,
+        }
+    }
+}
+
+// An entry whose worker has a call open.
+fn open_entry(
+    s: Settings,
+    t: Tally,
+    i: u32,
+    nodes: &mut [u32],
+    levels: &mut [u32],
+    workers: &mut [u32],
+) -> Tally
+    requires { ⌜ 1 ≤ t .left ⌝ }
+    requires { ⌜ t .number ≡ 0 ⌝ }
+    requires { ⌜ firstThree 3 (countedBy s t) (length (now nodes)) (length (now levels)) (length (now workers)) ≡ 0 ⌝ }
+    requires { ⌜ i < s .workers ⌝ }
+    requires { ⌜ 1 ≤ kindNo (headAt 3 (now workers) i .kind) ⌝ }
+    ensures { λ u. ⌜ ranOf s u (areas (now (nodes .exit)) (now (levels .exit)) (now (workers .exit))) ≡ ranEntry 3 (ranOf s t (areas (now (nodes .entry)) (now (levels .entry)) (now (workers .entry)))) i ⌝ }
+{
+    let n = with_counts(s, t);
+    let d = open_here(n, i, nodes, levels, workers);
+    tallied(t, d)
+}
+
+// One entry of a list of turns that goes on.
 fn entry(
     s: Settings,
     t: Tally,
@@ -70,19 +106,16 @@ fn entry(
     levels: &mut [u32],
     workers: &mut [u32],
 ) -> Tally
-    requires { ⌜ firstThree 3 (counted s t) (length (now nodes)) (length (now levels)) (length (now workers)) ≡ 0 ⌝ }
+    requires { ⌜ 1 ≤ t .left ⌝ }
+    requires { ⌜ t .number ≡ 0 ⌝ }
+    requires { ⌜ firstThree 3 (countedBy s t) (length (now nodes)) (length (now levels)) (length (now workers)) ≡ 0 ⌝ }
     requires { ⌜ i < s .workers ⌝ }
     ensures { λ u. ⌜ ranOf s u (areas (now (nodes .exit)) (now (levels .exit)) (now (workers .exit))) ≡ ranEntry 3 (ranOf s t (areas (now (nodes .entry)) (now (levels .entry)) (now (workers .entry)))) i ⌝ }
 {
-    if t.left == 0 {
-        return t;
-    }
-    if t.number == 0 {
-        let n = with_counts(s, t);
-        let r = turn_here(n, i, nodes, levels, workers);
-        tallied(t, r)
+    if idle_at(workers, i) {
+        idle_entry(t, answer_at(workers, i))
     } else {
-        t
+        open_entry(s, t, i, nodes, levels, workers)
     }
 }
 
@@ -158,7 +191,7 @@ fn less(n: u32, k: u32) -> u32
 
 // What a list of turns gives at its end: the turns done are those that the limit has been counted down by.
 fn ended_list(s: Settings, t: Tally, limit: u32) -> Reply
-    ensures { λ r. ⌜ r ≡ reply (t .number) Answer.Nothing (limit - t .left) (counted s t) ⌝ }
+    ensures { λ r. ⌜ r ≡ reply (t .number) Answer.Nothing (limit - t .left) (countedBy s t) ⌝ }
 {
     Reply {
         number: t.number,

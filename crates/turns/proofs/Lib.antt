@@ -2,5 +2,7 @@
 -- Relies on rules.
 pub mod Finish
 pub mod OneCut
+pub mod Kept
+pub mod Three
 pub mod Ways
 pub mod Moves

@@ -13,6 +13,7 @@ use Rattle.rules.specs.Acts.{actBy}
 use Rattle.rules.specs.Asked.{readsBy, question7, question9}
 use Rattle.rules.specs.Operations.{Result, result, reply, refused, recordOf, memoryOf}
 use Rattle.steps.specs.Tried.{Tried, unlessSix, unlessNine}
+use Rattle.turns.specs.declared.Done.{Done}
 
 -- what the method for the kind of a record gives
 unfoldable pub triedOf : ℕ → Settings → Record → Memory → Tried
@@ -38,3 +39,28 @@ turnHere w s i a =
     pick (fits w s (recordOf w a i))
     (pick (question7 (recordOf w a i)) (refused 8 s a) (finished w (triedOf w s (recordOf w a i) (memoryOf a)) i s a))
     (refused 6 s a)
+
+-- what is handed on of a turn's reply, with the areas; and the reply again, from the settings that the turn was handed
+unfoldable pub doneOf : Reply → Done
+doneOf r = record { number = r .number; answer = r .answer; «nodes_taken» = r .settings .«nodes_taken»; «levels_taken» = r .settings .«levels_taken» }
+
+pub record Did : Type 0 where
+  pub done : Done
+  pub areas : Areas
+
+abbrev pub did : Done → Areas → Did
+did d a = record { done = d; areas = a }
+
+unfoldable pub didBy : Result → Did
+didBy x = did (doneOf (x .reply)) (x .areas)
+
+abbrev pub didHere : ℕ → Settings → ℕ → Areas → Did
+didHere w s i a = didBy (turnHere w s i a)
+
+-- settings with other counts
+unfoldable pub counted : Settings → ℕ → ℕ → Settings
+counted s n g =
+    record { workers = s .workers; limit = s .limit; nodes = s .nodes; «nodes_taken» = n; «levels_taken» = g }
+
+unfoldable pub replyOf : Settings → Done → Reply
+replyOf s d = reply (d .number) (d .answer) 0 (counted s (d .«nodes_taken») (d .«levels_taken»))

@@ -12,8 +12,9 @@ ghost use Rattle.record.specs.Layout.{record′, load, headAt, store};
 ghost use Rattle.record.specs.Fits.{fits};
 ghost use Rattle.rules.specs.Operations.{result, turn};
 ghost use Rattle.steps.specs.Cut.{begun};
-ghost use Rattle.turns.specs.Cut.{triedOf, finished, idleReply, turnHere};
+ghost use Rattle.turns.specs.Cut.{triedOf, finished, idleReply, turnHere, doneOf, did, didHere, replyOf};
 use mover::Mover;
+use record::Answer;
 use record::Head;
 use record::Move;
 use record::Reply;
@@ -144,29 +145,51 @@ fn move_here(
     }
 }
 
-// A turn of a worker with a call open. The head decides what is loaded further. The place of the record is tested once, here.
-fn open_here(
+// What a turn gives, of the settings only what it can change.
+pub struct Done {
+    pub number: u32,
+    pub answer: Answer,
+    pub nodes_taken: u32,
+    pub levels_taken: u32,
+}
+
+fn done_of(r: Reply) -> Done
+    ensures { λ d. ⌜ d ≡ doneOf r ⌝ }
+{
+    let a = r.answer;
+    let s = r.settings;
+    Done {
+        number: r.number,
+        answer: a,
+        nodes_taken: s.nodes_taken,
+        levels_taken: s.levels_taken,
+    }
+}
+
+// A turn of a worker with a call open, once questions 1 to 4 are answered yes. The head decides what is loaded further. The place of the record is
+// tested once, here.
+pub fn open_here(
     s: Settings,
     i: u32,
     nodes: &mut [u32],
     levels: &mut [u32],
     workers: &mut [u32],
-) -> Reply
+) -> Done
     requires { ⌜ Sized s ⌝ }
     requires { ⌜ 128 * i + 128 ≤ length (now workers) ⌝ }
     requires { ⌜ 1 ≤ kindNo (headAt 3 (now workers) i .kind) ⌝ }
-    ensures { λ r. ⌜ result r (areas (now (nodes .exit)) (now (levels .exit)) (now (workers .exit))) ≡ turnHere 3 s i (areas (now (nodes .entry)) (now (levels .entry)) (now (workers .entry))) ⌝ }
+    ensures { λ d. ⌜ did d (areas (now (nodes .exit)) (now (levels .exit)) (now (workers .exit))) ≡ didHere 3 s i (areas (now (nodes .entry)) (now (levels .entry)) (now (workers .entry))) ⌝ }
 {
     if inside(workers, i) {
         let h = Head::load(workers, i);
         let k = h.kind;
         if kind_no(k) <= 10 {
-            search_here(s, i, h, nodes, levels, workers)
+            done_of(search_here(s, i, h, nodes, levels, workers))
         } else {
-            move_here(s, i, h, nodes, levels, workers)
+            done_of(move_here(s, i, h, nodes, levels, workers))
         }
     } else {
-        refusal(6, s)
+        done_of(refusal(6, s))
     }
 }
 
@@ -181,27 +204,18 @@ fn idle_here(s: Settings, answer: u32) -> Reply
     }
 }
 
-// A turn of worker i, once questions 1 to 4 are answered yes. Of an idle worker only two words are read.
-pub fn turn_here(
-    s: Settings,
-    i: u32,
-    nodes: &mut [u32],
-    levels: &mut [u32],
-    workers: &mut [u32],
-) -> Reply
-    requires { ⌜ Sized s ⌝ }
-    requires { ⌜ 128 * i + 128 ≤ length (now workers) ⌝ }
-    ensures { λ r. ⌜ result r (areas (now (nodes .exit)) (now (levels .exit)) (now (workers .exit))) ≡ turnHere 3 s i (areas (now (nodes .entry)) (now (levels .entry)) (now (workers .entry))) ⌝ }
+// The reply of a turn, with the settings that it was handed but for their counts.
+fn reply_of(s: Settings, d: Done) -> Reply
+    ensures { λ r. ⌜ r ≡ replyOf s d ⌝ }
 {
-    if idle_at(workers, i) {
-        idle_here(s, answer_at(workers, i))
-    } else {
-        open_here(s, i, nodes, levels, workers)
-    }
+    let mut n = s;
+    n.nodes_taken = d.nodes_taken;
+    n.levels_taken = d.levels_taken;
+    let a = d.answer;
+    replied(d.number, a, n)
 }
 
-// One turn of worker i. It says turn_here again: called from two places, open_here stays a function of its own, and an idle worker's turn in a
-// list costs no call.
+// One turn of worker i.
 pub fn turn(
     s: Settings,
     i: u32,
@@ -216,7 +230,8 @@ pub fn turn(
         if idle_at(workers, i) {
             idle_here(s, answer_at(workers, i))
         } else {
-            open_here(s, i, nodes, levels, workers)
+            let d = open_here(s, i, nodes, levels, workers);
+            reply_of(s, d)
         }
     } else {
         refusal(q, s)

@@ -1,26 +1,34 @@
 -- `lists::entry` meets its contract.
 -- Relies on the ways through a list of turns.
-use Rattle.lists.proofs.Ways.{entry-stop, entry-sized, entry-inside, entry-go, entry-over}
+use Rattle.turns.proofs.Ways.{not-idle}
+use Rattle.lists.proofs.Ways.{entry-idle}
 use borrow.Author.Needs.{needs}
 use Rattle.lists.proofs.entry.Statement.{statement}
 use Rattle.lists.proofs.entry.Tie as tie
 
-returns : tie.Need-returns
-returns c = search (needs, entry-stop)
+idle-at-requires : tie.Need-idle-at-requires
+idle-at-requires c κs = search needs
 
-with-counts-requires : tie.Need-with-counts-requires
-with-counts-requires c κs = search needs
+answer-at-requires : tie.Need-answer-at-requires
+answer-at-requires c κs = search needs
 
-turn-here-requires : tie.Need-turn-here-requires
-turn-here-requires c κs = let w = c .before .before .before in
-    let p = w .before .before .before .before .before .before .before .before .pre in
-    (entry-sized _ _ (c .before .before .before .before .before .before .before .before .before .before .before .args .i) _ _ _ (w .with-counts .ensures) (p .0), entry-inside _ _ _ _ _ _ (p .0) (p .1))
+idle-entry-requires : tie.Need-idle-entry-requires
+idle-entry-requires c κs = search needs
 
-tallied-requires : tie.Need-tallied-requires
-tallied-requires c κs = search needs
+open-entry-requires : tie.Need-open-entry-requires
+open-entry-requires c κs = let e = c .before .before .before in
+    let i = e .before in
+    let p = i .before .before .before .before .before .pre in
+    (p .0, (p .1 .0, (p .1 .1 .0, (p .1 .1 .1, not-idle _ _ _ (i .idle-at .ensures) (e .if1 .left)))))
 
 same-length : tie.Need-same-length
 same-length c = search needs
+
+returns : tie.Need-returns
+returns c = let e = c .before .before .before in
+    let i = e .before in
+    let p = i .before .before .before .before .before .pre in
+    entry-idle 3 _ _ _ _ _ _ (p .1 .0) (p .0) (p .1 .1 .0) (p .1 .1 .1) (c .idle-entry .ensures) (c .before .answer-at .ensures) (i .idle-at .ensures) (e .if1 .taken)
 
 same-length-2 : tie.Need-same-length-2
 same-length-2 c = search needs
@@ -28,25 +36,23 @@ same-length-2 c = search needs
 same-length-3 : tie.Need-same-length-3
 same-length-3 c = search needs
 
-returns-2 : tie.Need-returns-2
-returns-2 c = let b = c .before .before .before .before .before .before .before in
-    let w = b .before .before .before .before in
-    let p = w .before .before .before .before .before .before .before .before .pre in
-    search (needs, entry-go, w .with-counts .ensures, p .0, p .1)
+same-length-4 : tie.Need-same-length-4
+same-length-4 c = search needs
 
-returns-3 : tie.Need-returns-3
-returns-3 c = search (needs, entry-over)
+returns-2 : tie.Need-returns-2
+returns-2 c = search needs
 
 pub entry-spec : {M : Type 1} → statement M
 entry-spec =
     tie.close
     (tie.spec
-    returns
-    with-counts-requires
-    turn-here-requires
-    tallied-requires
+    idle-at-requires
+    answer-at-requires
+    idle-entry-requires
+    open-entry-requires
     same-length
+    returns
     same-length-2
     same-length-3
-    returns-2
-    returns-3)
+    same-length-4
+    returns-2)

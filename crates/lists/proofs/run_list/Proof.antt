@@ -8,9 +8,9 @@ use lib.ListN.{length, drop}
 use Rattle.words.specs.Choice.{every}
 use Rattle.areas.specs.Memory.{areas}
 use Rattle.rules.specs.Lists.{state}
-use Rattle.lists.specs.Cut.{run, counted, ranOf, ranList}
-use Rattle.lists.proofs.Three.{Three}
-use Rattle.lists.proofs.Ways.{begin-three, begin-list, of-three, entry-below, entry-keeps, list-more, list-all, list-over}
+use Rattle.lists.specs.Cut.{run, countedBy, ranOf, ranList}
+use Rattle.turns.proofs.Three.{Three}
+use Rattle.lists.proofs.Ways.{begin-three, begin-list, goes-left, goes-zero, of-three, entry-below, entry-keeps, list-more, list-all, list-over}
 use borrow.Author.Needs.{needs}
 use Rattle.lists.proofs.run_list.Statement.{statement}
 use Rattle.lists.proofs.run_list.Tie as tie
@@ -22,7 +22,7 @@ Inv-loop s list limit nodes₀ levels₀ workers₀ t₀ k₀ nodes levels worke
     × (length levels ≡ length levels₀)
     × (length workers ≡ length workers₀)
     × (every (λ i. ltb i (s .workers)) list ≡ true)
-    × Three 3 (s .workers) (state (counted s t) (areas nodes levels workers))
+    × Three 3 (s .workers) (state (countedBy s t) (areas nodes levels workers))
     × (ranList 3 (drop k list) (ranOf s t (areas nodes levels workers)) ≡ ranList 3 list (run 0 (state s (areas nodes₀ levels₀ workers₀)) limit))
 
 abbrev μ-loop : tie.MeasureT-loop
@@ -54,9 +54,11 @@ wide-requires c κs = search needs
 
 entry-requires : tie.Need-entry-requires Inv-loop μ-loop
 entry-requires c κs = let w = c .before .before .before in
-    let d = w .before .before .before .before in
+    let e = w .before .before in
+    let d = e .before .before in
     let v = d .before .loop .inv in
-    (of-three 3 _ _ _ _ (v .5), entry-below _ _ (v .4) (w .wide .ensures) (d .loop-test .taken))
+    let o = e .before .is-over .ensures in
+    (goes-left _ o (e .if1 .left), (goes-zero _ o (e .if1 .left), (of-three 3 _ _ _ _ (v .5), entry-below _ _ (v .4) (w .wide .ensures) (d .loop-test .taken))))
 
 add-k : tie.Need-add-k Inv-loop μ-loop
 add-k c = search needs

@@ -1,6 +1,6 @@
 -- `turns::turn` meets its contract.
 -- Relies on the ways through a turn.
-use Rattle.turns.proofs.Ways.{four-sized, four-inside, not-idle, turn-idle, turn-asked, turn-refused}
+use Rattle.turns.proofs.Ways.{four-sized, four-inside, not-idle, turn-idle, turn-open, turn-refused}
 use borrow.Author.Needs.{needs}
 use Rattle.turns.proofs.turn.Statement.{statement}
 use Rattle.turns.proofs.turn.Tie as tie
@@ -23,6 +23,9 @@ open-here-requires c κs = let e = c .before .before .before in
     let t = i .before .before in
     let q = t .before .refused-worker .ensures in
     (four-sized _ _ _ _ _ q (t .if1 .taken), (four-inside _ _ _ _ _ q (t .if1 .taken), not-idle _ _ _ (i .idle-at .ensures) (e .if2 .left)))
+
+reply-of-requires : tie.Need-reply-of-requires
+reply-of-requires c κs = search needs
 
 refusal-requires : tie.Need-refusal-requires
 refusal-requires c κs = search needs
@@ -52,9 +55,9 @@ same-length-6 : tie.Need-same-length-6
 same-length-6 c = search needs
 
 returns-2 : tie.Need-returns-2
-returns-2 c = let o = c .before .before .before .before .before .before in
+returns-2 c = let o = c .before .before .before .before .before .before .before in
     let t = o .before .before .before .before .before .before .before in
-    turn-asked 3 _ _ _ _ _ (o .open-here .ensures) (t .before .refused-worker .ensures) (t .if1 .taken)
+    turn-open 3 _ _ _ _ _ (c .reply-of .ensures) (o .open-here .ensures) (t .before .refused-worker .ensures) (t .if1 .taken)
 
 same-length-7 : tie.Need-same-length-7
 same-length-7 c = search needs
@@ -77,6 +80,7 @@ turn-spec =
     answer-at-requires
     idle-here-requires
     open-here-requires
+    reply-of-requires
     refusal-requires
     same-length
     same-length-2

@@ -24,7 +24,7 @@ use Rattle.rules.specs.Operations.{Result, recordOf, memoryOf, question2Of, tak
 use Rattle.rules.specs.Lists.{State, state, after}
 use Rattle.rules.specs.Refusals.{AllYes}
 use Rattle.rules.proofs.OneTurn.{done-number, nine-is-full, turn-leaves, refuses-turn}
-use Rattle.lists.proofs.Kept.{Kept, kind-kept}
+use Rattle.turns.proofs.Kept.{Kept, kind-kept}
 
 -- the questions, and how many workers there are
 pub record Three (w crew : ℕ) (x : State) : Type 0 where
