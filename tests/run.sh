@@ -12,5 +12,7 @@ gcc -O2 -Wall -Wextra -Werror examples/embed.c target/staticlib/libexport.a -o "
 "$out/embed" | diff - examples/embed.out
 echo "embed.c: as in embed.out"
 sh tests/documents.sh
-CARGO_NET_OFFLINE=true CARGO_TARGET_DIR="$out/rust" cargo run --release --offline --locked --manifest-path tests/rust/Cargo.toml
+# ./leafdrum asks rt for the kit at each run; here it is run more than two thousand times
+kit=${RATTLE_HOME:-$(dirname "$(dirname "$(rt doc)")")}
+RATTLE_HOME=$kit CARGO_NET_OFFLINE=true CARGO_TARGET_DIR="$out/rust" cargo run --release --offline --locked --manifest-path tests/rust/Cargo.toml
 exec rt ci

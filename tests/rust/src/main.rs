@@ -1,23 +1,33 @@
-// Compares the table with a model coded apart, after every operation: reply, settings and every word of the areas. What was never reached fails.
+// Compares the table with a model coded apart, after every operation: reply, settings and every word of the areas; and what the text program prints
+// with a text program coded apart. What was never reached fails.
 //   leafdrum_tests [SEED [TURNS]]                  everything
 //   leafdrum_tests mutants [SEED]                  the wrong versions of the model alone
 //   leafdrum_tests orders|large|spoiled|six SEED   one random sequence again, as a difference names it
+//   leafdrum_tests program [SEED [TEXTS]]          the text program alone
+//   leafdrum_tests text SEED                       one random text again, as a difference names it
 mod coverage;
 mod examples;
 mod model;
 mod mutants;
 mod pair;
+mod program;
 mod random;
 mod refusals;
+mod runs;
 mod sequences;
 mod six;
 mod table;
+mod text;
+mod text_coverage;
+mod text_mutants;
+mod texts;
 mod words;
 use coverage::Total;
 use pair::Compared;
 use random::Random;
 
 const SEED: u64 = 20_260_901;
+const TEXTS: u64 = 2_000;
 
 fn everything(seed: u64, turns: u64) -> Compared<Vec<String>> {
     let mut total = Total::default();
@@ -37,6 +47,7 @@ fn everything(seed: u64, turns: u64) -> Compared<Vec<String>> {
     }
     missing.extend(total.report());
     missing.extend(mutants::missed(seed));
+    missing.extend(program::all(seed, TEXTS)?);
     Ok(missing)
 }
 
@@ -53,6 +64,8 @@ fn main() {
         Some("orders") => one(sequences::orders, number(1, SEED)),
         Some("large") => one(sequences::large, number(1, SEED)),
         Some("six") => six::aimed(number(1, SEED), &mut Total::default()),
+        Some("program") => program::all(number(1, SEED), number(2, TEXTS)),
+        Some("text") => program::one(number(1, SEED)),
         Some("spoiled") => one(sequences::spoiled, number(1, SEED)),
         _ => {
             println!("seed {}", number(0, SEED));

@@ -25,7 +25,7 @@ pub fn opened(total: &Total, s: Settings, more: usize, fill: u32, what: &str) ->
 }
 
 // Pixels that share long beginnings, so that chains close and Moves nest.
-fn clustered(r: &mut Random, spread: u64) -> (u32, u32) {
+pub fn clustered(r: &mut Random, spread: u64) -> (u32, u32) {
     let base = r.pick(&[0u64, 0o7, 0o777, 0o12345670, 0o77777777, 0o40000000]);
     let p = (base ^ r.below(1 << spread)) & 0xffffff;
     ((p >> 12) as u32, (p & 4095) as u32)
