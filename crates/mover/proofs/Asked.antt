@@ -1,59 +1,67 @@
--- Question 6 of a moving turn, in the code: the ways through its parts, what a yes says of numbers, and that the Moves around need not be at hand.
+-- Question 6 of a moving turn, in the code: the ways through its parts, what a yes says of numbers, and that the Moves need not be at hand.
 -- Relies on words for tests with parts, on steps for bounds.
-use mathlib.Core.Path.{_≡_, refl}
+use mathlib.Core.Path.{_≡_, refl, ap, sym, _∙_}
 use mathlib.Core.Bool.{Bool, true, false}
 use mathlib.Core.List.{List, [], _∷_}
 use Prim.Native.Nat.{ℕ, suc, _+_, _≤_, _<_}
 use lib.Dec.{leb, ltb, eqb}
 use lib.ListN.{length}
-use borrow.Author.Tests.{ltb-true, ne-eqb}
+use borrow.Author.Tests.{ltb-true, leb-true, ne-eqb}
 use native.Mathlib.Omega.{arith}
 use Rattle.words.specs.Choice.{pick, both}
 use Rattle.words.specs.Digits.{depths}
-use Rattle.words.proofs.Choice.{via, both-left, both-right}
+use Rattle.words.proofs.Choice.{via, both-left, both-right, pick-both, pick-true}
 use Rattle.settings.specs.declared.Settings.{Settings}
 use Rattle.settings.specs.Sizes.{Sized, maxMoves}
 use Rattle.areas.specs.declared.Cell.{Cell}
-use Rattle.areas.specs.Memory.{Memory, memory, levelRef, isNode, pixelAt, nextAt, entryCell, cellAt, nodeTaken}
+use Rattle.areas.specs.Memory.{Memory, memory, levelRef, isNode, pixelAt, nextAt, entryCell, cellAt, nodeTaken, refTaken}
 use Rattle.record.specs.declared.Head.{Head}
 use Rattle.record.specs.declared.Move.{Move}
 use Rattle.rules.specs.Heads.{lastNode}
 use Rattle.rules.specs.Steps.{expected}
-use Rattle.rules.specs.Moving.{keyOf, homeCell}
-use Rattle.rules.specs.Asked.{remembers, picksIn, pixelFits, readsRef, goesBack, keyFits, moveLeft, closes, standsAt, picksHome, chainHeads, chainNexts, moveEnds, setNexts, setPuts, setAppends, setCloses}
+use Rattle.rules.specs.Moving.{keyOf, homeCell, setCellOf}
+use Rattle.rules.specs.Asked.{remembers, picksIn, pixelFits, readsRef, goesBack, keyFits, moveLeft, closes, standsAt, picksHome, chainHeads, chainNexts, moveEnds, setNexts, setPuts, setLooks, setAppends, setCloses}
 use Rattle.steps.proofs.Asked.{level-most, closes-one, closes-most}
+use Rattle.mover.specs.declared.Inner.{Inner}
 use Rattle.mover.specs.declared.Mover.{Mover}
-use Rattle.mover.specs.Cut.{keyCut, homeCut, keyFitsCut, picksHomeCut, wordAsked, moveEndsCut, moveLeftCut, setClosesCut}
+use Rattle.mover.specs.Cut.{rememberIn, wordInner, keyCut, homeCut, keyFitsCut, picksHomeCut, roomIn, wordAsked, setCellCut, setNextsCut, setPutsCut, setLooksCut, setAppendsCut, moveEndsCut, moveLeftCut, setClosesCut}
 use Rattle.mover.specs.Moved.{outerNode, Around}
 
 -- room to remember the word read
-module _ (s : Settings) (v : Move) (word : ℕ) where
-  pub room-node : {r : Bool} → r ≡ leb (v .count + 1) (s .limit) → isNode word ≡ true → r ≡ remembers s v word
-  unfolding remembers pick
+module _ (s : Settings) (v : Inner) (word : ℕ) where
+  pub room-node : {r : Bool} → r ≡ leb (v .count + 1) (s .limit) → isNode word ≡ true → r ≡ roomIn s v word
+  unfolding roomIn pick
   room-node a e = simp (e, a)
 
-  pub room-level : isNode word ≡ false → true ≡ remembers s v word
-  unfolding remembers pick
+  pub room-level : isNode word ≡ false → true ≡ roomIn s v word
+  unfolding roomIn pick
   room-level e = simp e
 
--- the node remembered last
-module _ (s : Settings) (v : Move) where
-  pub taken-last : {r : Bool} {i : ℕ} → r ≡ nodeTaken s i → i ≡ lastNode v → r ≡ nodeTaken s (lastNode v)
-  taken-last a b = simp (a, b)
+  -- where there is room, the nodes remembered after the word stay within the bound
+  pub room-most : wordAsked s v word ≡ true → v .count ≤ 8 → Sized s → wordInner v word .count ≤ 8
+  unfolding wordAsked roomIn wordInner rememberIn
+  room-most e h z =
+      let k : s .limit ≤ 8 = z .ranges .limit .high in
+      pick-both (λ (i : Inner). i .count ≤ 8) (isNode word)
+      (λ q. let t : v .count + 1 ≤ s .limit = leb-true _ _ (sym (pick-true (isNode word) _ true q) ∙ both-right _ _ e) in omega arith)
+      (λ q. h)
 
-  pub fits-last : (nodes : List ℕ) {r : Bool} {i : ℕ} → r ≡ pixelFits s i nodes → i ≡ lastNode v → r ≡ pixelFits s (lastNode v) nodes
-  fits-last nodes a b = simp (a, b)
+-- the pixel of the node that is set, and its entry
+pub cell-way : (w : ℕ) (h : Head) (n : ℕ) (nodes levels : List ℕ) {x : Cell} {p : ℕ} → x ≡ entryCell w levels (h .level) p → p ≡ pixelAt nodes n → x ≡ setCellCut w h n (memory nodes levels)
+unfolding setCellCut
+cell-way w h n nodes levels a b = simp (a, b)
 
-pub cell-last :
-    (w : ℕ) (v : Move) (g : ℕ) (nodes levels : List ℕ) {x : Cell} {p i : ℕ}
-    → x ≡ entryCell w levels g p → p ≡ pixelAt nodes i → i ≡ lastNode v → x ≡ entryCell w levels g (pixelAt nodes (lastNode v))
-cell-last w v g nodes levels a b c = simp (a, b, c)
+pub looks-way :
+    (w : ℕ) (s : Settings) (h : Head) (n : ℕ) (m : Memory) {r a b : Bool} {x : Cell}
+    → r ≡ both a b → a ≡ setPutsCut w s h n m → b ≡ readsRef w s x m → x ≡ setCellCut w h n m → r ≡ setLooksCut w s h n m
+unfolding setLooksCut
+looks-way w s h n m p q e f = simp (p, q, e, f)
 
 -- a test, and a word that is followed
 pub ask-back :
-    (w : ℕ) (s : Settings) (h : Head) (levels : List ℕ) {r a b c : Bool} {word u : ℕ}
-    → r ≡ both a b → b ≡ goesBack w s h word levels → word ≡ u → a ≡ c → r ≡ both c (goesBack w s h u levels)
-ask-back w s h levels p q e f = simp (p, q, e, f)
+    (w taken level : ℕ) (levels : List ℕ) {r a b c : Bool} {word u : ℕ}
+    → r ≡ both a b → b ≡ goesBack w taken level word levels → word ≡ u → a ≡ c → r ≡ both c (goesBack w taken level u levels)
+ask-back w taken level levels p q e f = simp (p, q, e, f)
 
 -- the key of the innermost Move, and its entry
 module _ (v : Mover) (nodes : List ℕ) where
@@ -98,18 +106,18 @@ node-below s i e z =
     let k : s .nodes ≤ 4096 = z .ranges .nodes .high in
     omega arith
 
-module _ (s : Settings) (h : Head) (v : Move) {r : Bool} where
-  pub nexts-level : r ≡ setNexts s h v → r ≡ true → Sized s → h .level ≤ 28689
-  unfolding setNexts
-  nexts-level a e z = level-most s (h .level) (both-right (nodeTaken s (lastNode v)) _ (via a e)) z
+module _ (s : Settings) (h : Head) (n : ℕ) {r : Bool} where
+  pub nexts-level : r ≡ setNextsCut s h n → r ≡ true → Sized s → h .level ≤ 28689
+  unfolding setNextsCut
+  nexts-level a e z = level-most s (h .level) (both-right (nodeTaken s n) _ (via a e)) z
 
-  pub puts-last : (w : ℕ) (m : Memory) → r ≡ setPuts w s h v m → r ≡ true → Sized s → lastNode v ≤ 4096
-  unfolding setPuts pixelFits
-  puts-last w m a e z = node-below s (lastNode v) (both-left _ _ (both-right (picksIn w s (h .level) (m .levels)) _ (via a e))) z
+  pub puts-last : (w : ℕ) (m : Memory) → r ≡ setPutsCut w s h n m → r ≡ true → Sized s → n ≤ 4096
+  unfolding setPutsCut pixelFits
+  puts-last w m a e z = node-below s n (both-left _ _ (both-right (picksIn w s (h .level) (m .levels)) _ (via a e))) z
 
-  pub appends-last : r ≡ setAppends s h v → r ≡ true → Sized s → lastNode v ≤ 4096
-  unfolding setAppends
-  appends-last a e z = node-below s (lastNode v) (both-right (standsAt s h) _ (via a e)) z
+  pub appends-last : r ≡ setAppendsCut s h n → r ≡ true → Sized s → n ≤ 4096
+  unfolding setAppendsCut
+  appends-last a e z = node-below s n (both-right (standsAt s h) _ (via a e)) z
 
 module _ (w : ℕ) (s : Settings) (v : Mover) {r : Bool} where
   pub set-closes-one : (nodes : List ℕ) → r ≡ setClosesCut w s v nodes → r ≡ true → 1 ≤ v .head .«held_level»
@@ -124,51 +132,82 @@ module _ (w : ℕ) (s : Settings) (v : Mover) {r : Bool} where
   unfolding moveEndsCut
   ends-child m a e z = level-most s (v .inner .child) (both-right (picksHomeCut w s v m) _ (via a e)) z
 
--- with the Moves around the innermost one
-pub key-is : (v : Mover) (os : List Move) (nodes : List ℕ) → Around v os → keyCut v nodes ≡ keyOf (v .head) os nodes
+-- with the innermost Move and those around it
+pub last-is : (v : Mover) (a : Move) (os : List Move) → Around v a os → v .inner .last ≡ lastNode a
+last-is v a os o = ap (λ (i : Inner). i .last) (o .inner-is)
+
+pub key-is : (v : Mover) (a : Move) (os : List Move) (nodes : List ℕ) → Around v a os → keyCut v nodes ≡ keyOf (v .head) os nodes
 unfolding keyCut keyOf outerNode pick
-key-is v [] nodes a = simp (a .count)
-key-is v (o ∷ os) nodes a =
-    let n : v .moves ≡ suc (suc (length os)) = a .count in
-    simp (ne-eqb (v .moves) 1 (λ e. omega arith), a .outer-is)
+key-is v a [] nodes r = simp (r .count)
+key-is v a (o ∷ os) nodes r =
+    let n : v .moves ≡ suc (suc (length os)) = r .count in
+    simp (ne-eqb (v .moves) 1 (λ e. omega arith), r .outer-is)
 
-pub key-fits-is : (s : Settings) (v : Mover) (os : List Move) (nodes : List ℕ) → Around v os → keyFitsCut s v nodes ≡ keyFits s os nodes
+pub key-fits-is : (s : Settings) (v : Mover) (a : Move) (os : List Move) (nodes : List ℕ) → Around v a os → keyFitsCut s v nodes ≡ keyFits s os nodes
 unfolding keyFitsCut keyFits outerNode pick
-key-fits-is s v [] nodes a = simp (a .count)
-key-fits-is s v (o ∷ os) nodes a =
-    let n : v .moves ≡ suc (suc (length os)) = a .count in
-    simp (ne-eqb (v .moves) 1 (λ e. omega arith), a .outer-is)
+key-fits-is s v a [] nodes r = simp (r .count)
+key-fits-is s v a (o ∷ os) nodes r =
+    let n : v .moves ≡ suc (suc (length os)) = r .count in
+    simp (ne-eqb (v .moves) 1 (λ e. omega arith), r .outer-is)
 
-pub home-is : (w : ℕ) (v : Mover) (os : List Move) → Around v os → (m : Memory) → homeCut w v m ≡ homeCell w (v .head) (v .inner) os m
+pub home-is : (w : ℕ) (v : Mover) (a : Move) (os : List Move) → Around v a os → (m : Memory) → homeCut w v m ≡ homeCell w (v .head) a os m
 unfolding homeCut homeCell
-home-is w v os a m = rw (key-is v os (m .nodes) a)
+home-is w v a os r m = rw (key-is v a os (m .nodes) r, r .inner-is)
 
-module _ (w : ℕ) (s : Settings) (v : Mover) (os : List Move) (a : Around v os) where
-  pub picks-home-is : (m : Memory) → picksHomeCut w s v m ≡ picksHome w s (v .inner) os m
+module _ (w : ℕ) (s : Settings) (v : Mover) (a : Move) (os : List Move) (o : Around v a os) where
+  pub picks-home-is : (m : Memory) → picksHomeCut w s v m ≡ picksHome w s a os m
   unfolding picksHomeCut picksHome
-  picks-home-is m = rw (key-fits-is s v os (m .nodes) a)
+  picks-home-is m = rw (key-fits-is s v a os (m .nodes) o, o .inner-is)
 
-  pub move-left-is : (nodes : List ℕ) → moveLeftCut w v nodes ≡ moveLeft w (v .head) (v .inner ∷ os) nodes
+  pub move-left-is : (nodes : List ℕ) → moveLeftCut w v nodes ≡ moveLeft w (v .head) (a ∷ os) nodes
   unfolding moveLeftCut moveLeft
-  move-left-is nodes = rw (a .count)
+  move-left-is nodes = rw (o .count)
+
+  word-is : (word : ℕ) → wordAsked s (v .inner) word ≡ both (refTaken s word) (remembers s a word)
+  unfolding wordAsked roomIn remembers
+  word-is word = rw (o .inner-is)
 
   pub heads-asked :
       (m : Memory) {r b : Bool} {word : ℕ} {x : Cell}
       → r ≡ both (picksHomeCut w s v m) (wordAsked s (v .inner) word) → word ≡ cellAt w m x → x ≡ homeCut w v m → r ≡ b
-      → chainHeads w s (v .head) (v .inner) os m ≡ b
-  unfolding chainHeads wordAsked readsRef
-  heads-asked m p q e f = simp (← picks-home-is m, ← home-is w v os a m, ← e, ← q, ← p, f)
+      → chainHeads w s (v .head) a os m ≡ b
+  unfolding chainHeads readsRef
+  heads-asked m {word} p q e f = simp (← picks-home-is m, ← home-is w v a os o m, ← e, ← q, ← word-is word, ← p, f)
 
-  pub ends-asked : (m : Memory) {r b : Bool} → r ≡ moveEndsCut w s v m → r ≡ b → moveEnds w s (v .inner) os m ≡ b
+  pub nexts-asked :
+      (nodes : List ℕ) {r b : Bool} {word : ℕ}
+      → r ≡ both (nodeTaken s (v .inner .last)) (wordAsked s (v .inner) word) → word ≡ nextAt nodes (v .inner .last) → r ≡ b → chainNexts s a nodes ≡ b
+  unfolding chainNexts
+  nexts-asked nodes {word} p q f = simp (← last-is v a os o, ← q, ← word-is word, ← p, f)
+
+  pub ends-asked : (m : Memory) {r b : Bool} → r ≡ moveEndsCut w s v m → r ≡ b → moveEnds w s a os m ≡ b
   unfolding moveEnds moveEndsCut
-  ends-asked m p f = simp (← picks-home-is m, ← p, f)
+  ends-asked m p f = simp (← picks-home-is m, ← child-is, ← p, f)
+    where
+      child-is : v .inner .child ≡ a .child
+      child-is = ap (λ (i : Inner). i .child) (o .inner-is)
 
-  pub closes-asked : (nodes : List ℕ) {r b : Bool} → r ≡ setClosesCut w s v nodes → r ≡ b → setCloses w s (v .head) (v .inner ∷ os) nodes ≡ b
+  pub closes-asked : (nodes : List ℕ) {r b : Bool} → r ≡ setClosesCut w s v nodes → r ≡ b → setCloses w s (v .head) (a ∷ os) nodes ≡ b
   unfolding setCloses setClosesCut
   closes-asked nodes p f = simp (← move-left-is nodes, ← p, f)
 
-pub nexts-asked :
-    (s : Settings) (v : Move) (nodes : List ℕ) {r b : Bool} {word i : ℕ}
-    → r ≡ both (nodeTaken s i) (wordAsked s v word) → word ≡ nextAt nodes i → i ≡ lastNode v → r ≡ b → chainNexts s v nodes ≡ b
-unfolding chainNexts wordAsked
-nexts-asked s v nodes p q e f = simp (← e, ← q, ← p, f)
+  -- the node that is set is the one remembered last
+  pub cell-is : (m : Memory) → setCellCut w (v .head) (v .inner .last) m ≡ setCellOf w (v .head) a m
+  unfolding setCellCut setCellOf
+  cell-is m = rw (last-is v a os o)
+
+  pub set-asked : {r b : Bool} → r ≡ setNextsCut s (v .head) (v .inner .last) → r ≡ b → setNexts s (v .head) a ≡ b
+  unfolding setNexts setNextsCut
+  set-asked p f = simp (← last-is v a os o, ← p, f)
+
+  pub puts-asked : (m : Memory) {r b : Bool} → r ≡ setPutsCut w s (v .head) (v .inner .last) m → r ≡ b → setPuts w s (v .head) a m ≡ b
+  unfolding setPuts setPutsCut
+  puts-asked m p f = simp (← last-is v a os o, ← p, f)
+
+  pub looks-asked : (m : Memory) {r b : Bool} → r ≡ setLooksCut w s (v .head) (v .inner .last) m → r ≡ b → setLooks w s (v .head) a m ≡ b
+  unfolding setLooks setLooksCut setPuts setPutsCut
+  looks-asked m p f = simp (← cell-is m, ← last-is v a os o, ← p, f)
+
+  pub appends-asked : {r b : Bool} → r ≡ setAppendsCut s (v .head) (v .inner .last) → r ≡ b → setAppends s (v .head) a ≡ b
+  unfolding setAppends setAppendsCut
+  appends-asked p f = simp (← last-is v a os o, ← p, f)

@@ -8,29 +8,35 @@ use Rattle.words.specs.Choice.{pick, both}
 use Rattle.words.specs.Digits.{depths}
 use Rattle.settings.specs.Sizes.{maxMoves}
 use Rattle.settings.specs.declared.Settings.{Settings}
-use Rattle.areas.specs.Memory.{Memory, nodeRef, isNode, named, pixelAt, nextAt, entryCell, cellAt, setCell, levelTaken, refTaken}
+use Rattle.areas.specs.Memory.{Memory, nodeRef, isNode, named, pixelAt, nextAt, entryCell, cellAt, setCell, levelTaken, nodeTaken, refTaken}
 use Rattle.areas.specs.declared.Cell.{Cell}
 use Rattle.record.specs.declared.Kind.{Kind}
 use Rattle.record.specs.declared.Kind.the-variants.{Look, ChainNext, SetNext, SetTail, MoveEnd}
 use Rattle.record.specs.declared.Answer.{Answer}
 use Rattle.record.specs.declared.Answer.the-variants.{Nothing, Open}
 use Rattle.record.specs.declared.Head.{Head}
-use Rattle.record.specs.declared.Move.{Move}
 use Rattle.record.specs.Kinds.{kindNo}
-use Rattle.record.specs.Layout.{movesAt, moveAt, movePlace, storeHead, moveTo, newMove}
-use Rattle.rules.specs.Heads.{to, toLevel, toNode, lastNode, remember, forget}
+use Rattle.rules.specs.Heads.{to, toLevel, toNode}
 use Rattle.rules.specs.Steps.{expected, more, childOf}
-use Rattle.rules.specs.Asked.{remembers, picksIn, pixelFits, closes}
+use Rattle.rules.specs.Asked.{picksIn, pixelFits, readsRef, standsAt, closes}
+use Rattle.mover.specs.declared.Inner.{Inner}
 use Rattle.mover.specs.declared.Mover.{Mover}
 use Rattle.mover.specs.declared.Moved.{Moved}
 
-abbrev pub movedOf : ℕ → Answer → Settings → Head → ℕ → Move → ℕ → Moved
+abbrev pub movedOf : ℕ → Answer → Settings → Head → ℕ → Inner → ℕ → Moved
 movedOf n a s h k v o =
     record { number = n; answer = a; settings = s; mover = record { head = h; moves = k; inner = v; outer = o } }
 
 -- the call goes on with as many Moves, the innermost now i
-abbrev pub stays : Mover → Settings → Head → Move → Moved
+abbrev pub stays : Mover → Settings → Head → Inner → Moved
 stays v s h i = movedOf 0 Open s h (v .moves) i (v .outer)
+
+-- one node more is remembered; the last one is forgotten
+unfoldable pub rememberIn : ℕ → Inner → Inner
+rememberIn i v = record { home = v .home; child = v .child; count = v .count + 1; last = i }
+
+unfoldable pub forgetIn : Inner → Inner
+forgetIn v = record { home = v .home; child = v .child; count = v .count - 1; last = v .last }
 
 -- question 6 is answered no: everything stays
 abbrev pub refuses : Mover → Settings → Moved
@@ -59,8 +65,27 @@ unfoldable pub picksHomeCut : ℕ → Settings → Mover → Memory → Bool
 picksHomeCut w s v m = both (picksIn w s (v .inner .home) (m .levels)) (keyFitsCut s v (m .nodes))
 
 -- a word read from a chain names a taken node or level, and there is room to remember it
-unfoldable pub wordAsked : Settings → Move → ℕ → Bool
-wordAsked s v word = both (refTaken s word) (remembers s v word)
+unfoldable pub roomIn : Settings → Inner → ℕ → Bool
+roomIn s v word = pick (isNode word) (leb (v .count + 1) (s .limit)) true
+
+unfoldable pub wordAsked : Settings → Inner → ℕ → Bool
+wordAsked s v word = both (refTaken s word) (roomIn s v word)
+
+-- of the node n that is set: its place and the questions
+unfoldable pub setCellCut : ℕ → Head → ℕ → Memory → Cell
+setCellCut w h n m = entryCell w (m .levels) (h .level) (pixelAt (m .nodes) n)
+
+unfoldable pub setNextsCut : Settings → Head → ℕ → Bool
+setNextsCut s h n = both (nodeTaken s n) (levelTaken s (h .level))
+
+unfoldable pub setPutsCut : ℕ → Settings → Head → ℕ → Memory → Bool
+setPutsCut w s h n m = both (picksIn w s (h .level) (m .levels)) (pixelFits s n (m .nodes))
+
+unfoldable pub setLooksCut : ℕ → Settings → Head → ℕ → Memory → Bool
+setLooksCut w s h n m = both (setPutsCut w s h n m) (readsRef w s (setCellCut w h n m) m)
+
+unfoldable pub setAppendsCut : Settings → Head → ℕ → Bool
+setAppendsCut s h n = both (standsAt s h) (nodeTaken s n)
 
 unfoldable pub moveEndsCut : ℕ → Settings → Mover → Memory → Bool
 moveEndsCut w s v m = both (picksHomeCut w s v m) (levelTaken s (v .inner .child))
@@ -72,15 +97,15 @@ unfoldable pub setClosesCut : ℕ → Settings → Mover → List ℕ → Bool
 setClosesCut w s v nodes = both (closes s (v .head)) (moveLeftCut w v nodes)
 
 -- the head after the last node remembered was set, or after a chain's end: the next node, or the Move's end
-unfoldable pub lastHead : Head → Move → Head
+unfoldable pub lastHead : Head → Inner → Head
 lastHead h v = pick (eqb (v .count) 0) (to MoveEnd h) (toLevel SetNext (v .child) h)
 
 -- a word read from a chain
-unfoldable pub wordHead : Head → Move → ℕ → Head
+unfoldable pub wordHead : Head → Inner → ℕ → Head
 wordHead h v word = pick (isNode word) (to ChainNext h) (lastHead h v)
 
-unfoldable pub wordMove : Move → ℕ → Move
-wordMove v word = pick (isNode word) (remember (named word) v) v
+unfoldable pub wordInner : Inner → ℕ → Inner
+wordInner v word = pick (isNode word) (rememberIn (named word) v) v
 
 -- a word read where a node is set
 unfoldable pub metHead : Head → ℕ → ℕ → ℕ → Head
@@ -93,7 +118,7 @@ followHead w s h word levels = metHead h (more s (h .count)) (childOf w levels (
 unfoldable pub placeCut : ℕ → Kind → Mover → Settings → Cell → Memory → MovedCut
 placeCut w failed v s x m =
     pick (expected (v .head) (cellAt w m x))
-    (movedCut (stays v s (lastHead (v .head) (forget (v .inner))) (forget (v .inner))) (setCell w m x (nodeRef (lastNode (v .inner)))))
+    (movedCut (stays v s (lastHead (v .head) (forgetIn (v .inner))) (forgetIn (v .inner))) (setCell w m x (nodeRef (v .inner .last))))
     (movedCut (stays v s (to failed (v .head)) (v .inner)) m)
 
 -- SetClose: a Move to level c - 1 has begun inside, or none where c is 0
@@ -101,7 +126,7 @@ unfoldable pub begunCut : Mover → Settings → Head → ℕ → Moved
 begunCut v s h c =
     pick (eqb c 0)
     (stays v s h (v .inner))
-    (movedOf 0 Open s h (v .moves + 1) (newMove (v .head .level) (c - 1)) (lastNode (v .inner)))
+    (movedOf 0 Open s h (v .moves + 1) (record { home = v .head .level; child = c - 1; count = 0; last = 0 }) (v .inner .last))
 
 -- MoveEnd: one Move less
 unfoldable pub endHead : Mover → Head
@@ -113,24 +138,3 @@ ends v s = movedOf 0 Open s (endHead v) (v .moves - 1) (v .inner) (v .outer)
 -- the kinds of turn of a Move
 unfoldable pub isMoving : Kind → Bool
 isMoving k = both (leb 11 (kindNo k)) (leb (kindNo k) 22)
-
--- the mover in a worker's words, with the head h
-unfoldable pub outerAt : ℕ → List ℕ → ℕ → ℕ → ℕ
-outerAt w l i n = pick (leb n 1) 0 (lastNode (moveAt w l i (n - 2)))
-
-unfoldable pub moverAt : ℕ → List ℕ → ℕ → Head → Mover
-moverAt w l i h =
-    record {
-      head = h;
-      moves = movesAt w l i;
-      inner = moveAt w l i (movesAt w l i - 1);
-      outer = outerAt w l i (movesAt w l i);
-    }
-
--- the words with a mover: its head, and its innermost Move unless a Move has ended
-unfoldable pub innerTo : ℕ → ℕ → Mover → ℕ → List ℕ → List ℕ
-innerTo w before v i l =
-    pick (ltb (v .moves) before) l (pick (eqb (v .moves) 0) l (moveTo (v .inner) (movePlace w i (v .moves - 1)) l))
-
-unfoldable pub moverTo : ℕ → Mover → ℕ → List ℕ → List ℕ
-moverTo w v i l = innerTo w (movesAt w l i) v i (storeHead w (v .head) (v .moves) i l)

@@ -2,3 +2,4 @@
 -- Relies on rules and steps.
 pub mod Cut
 pub mod Moved
+pub mod Words

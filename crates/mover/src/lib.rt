@@ -1,4 +1,5 @@
-// A moving worker: its head, its innermost Move and the last node of the Move around that, by value, with a method for each moving kind of turn.
+// A moving worker: its head, of its innermost Move what a turn needs, and the last node of the Move around that, by value, with a method for
+// each moving kind of turn.
 // Relies on steps for what searching and moving do alike, on rules for the definitions.
 ghost use mathlib.Core.Path.{_≡_};
 ghost use mathlib.Core.List.{_∷_};
@@ -6,11 +7,11 @@ ghost use Prim.Native.Nat.{_+_, _-_, _≤_};
 ghost use Rattle.words.specs.Choice.{both};
 ghost use Rattle.settings.specs.Sizes.{Sized};
 ghost use Rattle.areas.specs.Memory.{memory, nodeTaken};
-ghost use Rattle.rules.specs.Heads.{lastNode, remember, forget};
-ghost use Rattle.rules.specs.Moving.{setCellOf, chainHead, chainNext, setNext, setLook, setPut, setRead, setTail, setAppend, setLevel, setClose, setFollow, moveEnd};
-ghost use Rattle.rules.specs.Asked.{remembers, tails, takesLevel, chainHeads, chainNexts, setNexts, setPuts, setLooks, setAppends, setCloses, setFollows, moveEnds, readsBy};
+ghost use Rattle.rules.specs.Moving.{chainHead, chainNext, setNext, setLook, setPut, setRead, setTail, setAppend, setLevel, setClose, setFollow, moveEnd};
+ghost use Rattle.rules.specs.Asked.{tails, takesLevel, chainHeads, chainNexts, setNexts, setPuts, setLooks, setAppends, setCloses, setFollows, moveEnds, readsBy};
 ghost use Rattle.rules.specs.Acts.{actBy};
-ghost use Rattle.mover.specs.Cut.{stays, refuses, movedCut, keyCut, homeCut, keyFitsCut, picksHomeCut, wordAsked, moveEndsCut, moveLeftCut, setClosesCut, lastHead, wordHead, wordMove, metHead, followHead, placeCut, begunCut, endHead, ends, isMoving, outerAt, moverAt, innerTo, moverTo};
+ghost use Rattle.mover.specs.Cut.{rememberIn, forgetIn, roomIn, setNextsCut, setPutsCut, setCellCut, setLooksCut, setAppendsCut, stays, refuses, movedCut, keyCut, homeCut, keyFitsCut, picksHomeCut, wordAsked, moveEndsCut, moveLeftCut, setClosesCut, lastHead, wordHead, wordInner, metHead, followHead, placeCut, begunCut, endHead, ends, isMoving};
+ghost use Rattle.mover.specs.Words.{lastAt, innerAt, outerAt, moverAt, lastTo, innerOn, headTo, innerTo, moverTo};
 ghost use Rattle.mover.specs.Moved.{Gives};
 use areas::Cell;
 use areas::cell_at;
@@ -31,13 +32,18 @@ use record::Answer;
 use record::Head;
 use record::Kind;
 use record::Move;
+use record::kind_no;
+use record::move_place;
 use record::moves_at;
+use record::worker_place;
 use settings::Settings;
 use steps::by_count;
 use steps::child_of;
 use steps::close_next;
 use steps::closes;
+use steps::counted;
 use steps::goes_back;
+use steps::holding_level;
 use steps::more;
 use steps::peeked;
 use steps::picks_in;
@@ -52,15 +58,24 @@ use steps::to_level;
 use steps::to_node;
 use words::and;
 use words::at;
+use words::copy_in;
 use words::le;
 use words::lt;
 use words::put;
+
+// Of a Move: the level whose chain moves, the level that it moves to, how many nodes it remembers, and the last of them.
+pub struct Inner {
+    pub home: u32,
+    pub child: u32,
+    pub count: u32,
+    pub last: u32,
+}
 
 // The head, the number of Moves, the innermost of them, and the last node of the Move around it (0: none).
 pub struct Mover {
     pub head: Head,
     pub moves: u32,
-    pub inner: Move,
+    pub inner: Inner,
     pub outer: u32,
 }
 
@@ -80,49 +95,46 @@ fn less_one(n: u32) -> u32
     if n == 0 { 0 } else { n - 1 }
 }
 
-// The node that a Move remembered last.
-pub fn last_node(v: Move) -> u32
-    ensures { λ r. ⌜ r ≡ lastNode v ⌝ }
+// The node that the Move at place p remembered last.
+fn last_at(words: &[u32], p: usize) -> u32
+    requires { ⌜ p ≤ 600000000000 ⌝ }
+    ensures { λ r. ⌜ r ≡ lastAt (now (words .entry)) p ⌝ }
 {
-    let n = v.nodes;
-    let i = less_one(v.count) as usize;
-    at(&n, i)
+    let i = less_one(at(words, p + 2)) as usize;
+    at(words, p + 3 + i)
 }
 
 // One node more is remembered.
-fn remember(i: u32, v: Move) -> Move
+fn remember(i: u32, v: Inner) -> Inner
     requires { ⌜ v .count ≤ 8 ⌝ }
-    ensures { λ r. ⌜ r ≡ remember i v ⌝ }
+    ensures { λ r. ⌜ r ≡ rememberIn i v ⌝ }
 {
-    let mut n = v.nodes;
-    put(&mut n, v.count as usize, i);
-    Move {
+    Inner {
         home: v.home,
         child: v.child,
         count: v.count + 1,
-        nodes: n,
+        last: i,
     }
 }
 
-// The last node is forgotten.
-fn forget(v: Move) -> Move
-    ensures { λ r. ⌜ r ≡ forget v ⌝ }
+// The last node is forgotten. The one before it is read in the next turn.
+fn forget(v: Inner) -> Inner
+    ensures { λ r. ⌜ r ≡ forgetIn v ⌝ }
 {
-    let n = v.nodes;
-    Move {
+    Inner {
         home: v.home,
         child: v.child,
         count: less_one(v.count),
-        nodes: n,
+        last: v.last,
     }
 }
 
 // The parts of question 6 that moving has alone.
 
 // A node read from a chain has room among those remembered.
-fn remembers(s: Settings, v: Move, word: u32) -> bool
+fn room(s: Settings, v: Inner, word: u32) -> bool
     requires { ⌜ v .count ≤ 8 ⌝ }
-    ensures { λ r. ⌜ r ≡ remembers s v word ⌝ }
+    ensures { λ r. ⌜ r ≡ roomIn s v word ⌝ }
 {
     if is_node(word) {
         le(v.count + 1, s.limit)
@@ -131,68 +143,69 @@ fn remembers(s: Settings, v: Move, word: u32) -> bool
     }
 }
 
-fn word_asked(s: Settings, v: Move, word: u32) -> bool
+fn word_asked(s: Settings, v: Inner, word: u32) -> bool
     requires { ⌜ v .count ≤ 8 ⌝ }
     ensures { λ r. ⌜ r ≡ wordAsked s v word ⌝ }
 {
-    and(ref_taken(s, word), remembers(s, v, word))
+    and(ref_taken(s, word), room(s, v, word))
 }
 
-fn chain_nexts(s: Settings, v: Move, i: u32, word: u32) -> bool
+fn chain_nexts(s: Settings, v: Inner, word: u32) -> bool
     requires { ⌜ v .count ≤ 8 ⌝ }
-    ensures { λ r. ⌜ r ≡ both (nodeTaken s i) (wordAsked s v word) ⌝ }
+    ensures { λ r. ⌜ r ≡ both (nodeTaken s (v .last)) (wordAsked s v word) ⌝ }
 {
-    and(node_taken(s, i), word_asked(s, v, word))
+    and(node_taken(s, v.last), word_asked(s, v, word))
 }
 
-fn set_nexts(s: Settings, h: Head, v: Move) -> bool
-    ensures { λ r. ⌜ r ≡ setNexts s h v ⌝ }
+// N is node n, the last one remembered.
+fn set_nexts(s: Settings, h: Head, n: u32) -> bool
+    ensures { λ r. ⌜ r ≡ setNextsCut s h n ⌝ }
 {
-    and(node_taken(s, last_node(v)), level_taken(s, h.level))
+    and(node_taken(s, n), level_taken(s, h.level))
 }
 
-fn set_puts(s: Settings, h: Head, v: Move, nodes: &[u32], levels: &[u32]) -> bool
-    ensures { λ r. ⌜ r ≡ setPuts 3 s h v (memory (now (nodes .entry)) (now (levels .entry))) ⌝ }
+fn set_puts(s: Settings, h: Head, n: u32, nodes: &[u32], levels: &[u32]) -> bool
+    ensures { λ r. ⌜ r ≡ setPutsCut 3 s h n (memory (now (nodes .entry)) (now (levels .entry))) ⌝ }
 {
-    and(
-        picks_in(s, h.level, levels),
-        pixel_fits(s, last_node(v), nodes),
-    )
+    and(picks_in(s, h.level, levels), pixel_fits(s, n, nodes))
 }
 
 // The entry of N in the level that it is set into.
-fn set_cell_of(h: Head, v: Move, nodes: &[u32], levels: &[u32]) -> Cell
-    ensures { λ r. ⌜ r ≡ setCellOf 3 h v (memory (now (nodes .entry)) (now (levels .entry))) ⌝ }
+fn set_cell_of(h: Head, n: u32, nodes: &[u32], levels: &[u32]) -> Cell
+    ensures { λ r. ⌜ r ≡ setCellCut 3 h n (memory (now (nodes .entry)) (now (levels .entry))) ⌝ }
 {
-    entry_cell(levels, h.level, pixel_at(nodes, last_node(v)))
+    entry_cell(levels, h.level, pixel_at(nodes, n))
 }
 
 // x is that entry, which is found once a turn.
-fn set_looks(s: Settings, h: Head, v: Move, x: Cell, nodes: &[u32], levels: &[u32]) -> bool
-    requires { ⌜ x ≡ setCellOf 3 h v (memory (now nodes) (now levels)) ⌝ }
-    ensures { λ r. ⌜ r ≡ setLooks 3 s h v (memory (now (nodes .entry)) (now (levels .entry))) ⌝ }
+fn set_looks(s: Settings, h: Head, n: u32, x: Cell, nodes: &[u32], levels: &[u32]) -> bool
+    requires { ⌜ x ≡ setCellCut 3 h n (memory (now nodes) (now levels)) ⌝ }
+    ensures { λ r. ⌜ r ≡ setLooksCut 3 s h n (memory (now (nodes .entry)) (now (levels .entry))) ⌝ }
 {
     and(
-        set_puts(s, h, v, nodes, levels),
+        set_puts(s, h, n, nodes, levels),
         reads_ref(s, x, nodes, levels),
     )
 }
 
-fn set_appends(s: Settings, h: Head, v: Move) -> bool
-    ensures { λ r. ⌜ r ≡ setAppends s h v ⌝ }
+fn set_appends(s: Settings, h: Head, n: u32) -> bool
+    ensures { λ r. ⌜ r ≡ setAppendsCut s h n ⌝ }
 {
-    and(stands_at(s, h), node_taken(s, last_node(v)))
+    and(stands_at(s, h), node_taken(s, n))
 }
 
 fn set_follows(s: Settings, h: Head, nodes: &[u32], levels: &[u32]) -> bool
     ensures { λ r. ⌜ r ≡ setFollows 3 s h (memory (now (nodes .entry)) (now (levels .entry))) ⌝ }
 {
     let word = next_at(nodes, h.node);
-    and(tails(s, h, nodes), goes_back(s, h, word, levels))
+    and(
+        tails(s, h, nodes),
+        goes_back(s.levels_taken, h.level, word, levels),
+    )
 }
 
 // From the last to the first, each node is set. Then the entry in H is written.
-fn last_head(h: Head, v: Move) -> Head
+fn last_head(h: Head, v: Inner) -> Head
     ensures { λ r. ⌜ r ≡ lastHead h v ⌝ }
 {
     if v.count == 0 {
@@ -230,7 +243,54 @@ fn outer_at(words: &[u32], i: u32, n: u32) -> u32
     if n <= 1 {
         0
     } else {
-        last_node(Move::load(words, i, n - 2))
+        last_at(words, move_place(i, n - 2))
+    }
+}
+
+// The words of the head that a moving turn can change, and the number of Moves.
+fn store_head(h: Head, moves: u32, words: &mut [u32], i: u32)
+    ensures { λ r. ⌜ now (words .exit) ≡ headTo 3 h moves i (now (words .entry)) ⌝ }
+{
+    let p = worker_place(i);
+    let k = h.kind;
+    let b = [h.level, h.node, h.count];
+    put(words, p, kind_no(k));
+    copy_in(words, p + 2, &b);
+    put(words, p + 6, h.held_level);
+    put(words, p + 9, moves);
+}
+
+impl Inner {
+    // What a turn needs of the Move at place p.
+    fn load(words: &[u32], p: usize) -> Inner
+        requires { ⌜ p ≤ 600000000000 ⌝ }
+        ensures { λ r. ⌜ r ≡ innerAt (now (words .entry)) p ⌝ }
+    {
+        Inner {
+            home: at(words, p),
+            child: at(words, p + 1),
+            count: at(words, p + 2),
+            last: last_at(words, p),
+        }
+    }
+
+    // A node that has been remembered in this turn is written.
+    fn store_last(self, words: &mut [u32], p: usize)
+        requires { ⌜ p ≤ 600000000000 ⌝ }
+        ensures { λ r. ⌜ now (words .exit) ≡ lastTo self p (now (words .entry)) ⌝ }
+    {
+        if at(words, p + 2) < self.count {
+            put(words, p + 2 + (self.count as usize), self.last);
+        } else {}
+    }
+
+    // What a turn can change of the Move at place p: how many nodes it remembers, and the last of them where that is one more.
+    fn store(self, words: &mut [u32], p: usize)
+        requires { ⌜ p ≤ 600000000000 ⌝ }
+        ensures { λ r. ⌜ now (words .exit) ≡ innerOn self p (now (words .entry)) ⌝ }
+    {
+        self.store_last(words, p);
+        put(words, p + 2, self.count);
     }
 }
 
@@ -240,7 +300,7 @@ impl Mover {
         ensures { λ r. ⌜ r ≡ moverAt 3 (now (words .entry)) i h ⌝ }
     {
         let n = moves_at(words, i);
-        let v = Move::load(words, i, less_one(n));
+        let v = Inner::load(words, move_place(i, less_one(n)));
         Mover {
             head: h,
             moves: n,
@@ -249,31 +309,32 @@ impl Mover {
         }
     }
 
-    // The innermost Move is written, unless a Move has ended: then it is in the words already.
+    // The innermost Move is written: what changed of it, or all of one that has begun. Where one has ended, the one around it stands in the words.
     fn store_inner(self, before: u32, words: &mut [u32], i: u32)
         ensures { λ r. ⌜ now (words .exit) ≡ innerTo 3 before self i (now (words .entry)) ⌝ }
     {
         let n = self.moves;
         let v = self.inner;
-        if n < before {} else {
-            if n == 0 {} else {
-                v.store(words, i, n - 1);
-            }
+        if n == before {
+            v.store(words, move_place(i, less_one(n)));
+        } else {
+            if before < n {
+                Move::fresh(v.home, v.child).store(words, i, less_one(n));
+            } else {}
         }
     }
 
-    // The head and the innermost Move are written to the words of worker i, in which the Moves around it stand.
+    // What a turn can change is written to the words of worker i.
     pub fn store(self, words: &mut [u32], i: u32)
         ensures { λ r. ⌜ now (words .exit) ≡ moverTo 3 self i (now (words .entry)) ⌝ }
     {
-        let h = self.head;
         let before = moves_at(words, i);
-        h.store(self.moves, words, i);
+        store_head(self.head, self.moves, words, i);
         self.store_inner(before, words, i);
     }
 
     // The call goes on with as many Moves, the innermost now v.
-    fn stay(self, s: Settings, h: Head, v: Move) -> Moved
+    fn stay(self, s: Settings, h: Head, v: Inner) -> Moved
         ensures { λ r. ⌜ r ≡ stays self s h v ⌝ }
     {
         Moved {
@@ -375,7 +436,7 @@ impl Mover {
     // A word read from the chain: a node is remembered, at a level the chain has ended.
     fn chain_word(self, s: Settings, word: u32) -> Moved
         requires { ⌜ self .inner .count ≤ 8 ⌝ }
-        ensures { λ r. ⌜ r ≡ stays self s (wordHead (self .head) (self .inner) word) (wordMove (self .inner) word) ⌝ }
+        ensures { λ r. ⌜ r ≡ stays self s (wordHead (self .head) (self .inner) word) (wordInner (self .inner) word) ⌝ }
     {
         let h = self.head;
         let v = self.inner;
@@ -388,7 +449,7 @@ impl Mover {
 
     // The node remembered last is set.
     fn set_done(self, s: Settings) -> Moved
-        ensures { λ r. ⌜ r ≡ stays self s (lastHead (self .head) (forget (self .inner))) (forget (self .inner)) ⌝ }
+        ensures { λ r. ⌜ r ≡ stays self s (lastHead (self .head) (forgetIn (self .inner))) (forgetIn (self .inner)) ⌝ }
     {
         let v = forget(self.inner);
         self.stay(s, last_head(self.head, v), v)
@@ -403,15 +464,16 @@ impl Mover {
         nodes: &mut [u32],
         levels: &mut [u32],
     ) -> Moved
-        requires { ⌜ lastNode (self .inner) ≤ 4096 ⌝ }
+        requires { ⌜ self .inner .last ≤ 4096 ⌝ }
         ensures { λ r. ⌜ movedCut r (memory (now (nodes .exit)) (now (levels .exit))) ≡ placeCut 3 failed self s x (memory (now (nodes .entry)) (now (levels .entry))) ⌝ }
     {
         let h = self.head;
+        let v = self.inner;
         if refers_to(cell_at(x, nodes, levels), h.level) {
-            set_cell(x, node_ref(last_node(self.inner)), nodes, levels);
+            set_cell(x, node_ref(v.last), nodes, levels);
             self.set_done(s)
         } else {
-            self.stay(s, to(failed, h), self.inner)
+            self.stay(s, to(failed, h), v)
         }
     }
 
@@ -432,8 +494,13 @@ impl Mover {
                 mover: Mover {
                     head: h,
                     moves: self.moves + 1,
-                    inner: Move::fresh(o.level, c - 1),
-                    outer: last_node(v),
+                    inner: Inner {
+                        home: o.level,
+                        child: c - 1,
+                        count: 0,
+                        last: 0,
+                    },
+                    outer: v.last,
                 },
             }
         }
@@ -471,10 +538,10 @@ impl Mover {
     }
 
     // ChainHead: read the entry of the key in H.
-    pub fn chain_head(self, s: Settings, nodes: &mut [u32], levels: &mut [u32]) -> Moved
+    pub fn chain_head(self, s: Settings, nodes: &[u32], levels: &[u32]) -> Moved
         requires { ⌜ Sized s ⌝ }
         requires { ⌜ self .inner .count ≤ 8 ⌝ }
-        ensures { λ r. ⌜ Gives self s (memory (now (nodes .entry)) (now (levels .entry))) r (memory (now (nodes .exit)) (now (levels .exit))) (λ os. chainHeads 3 s (self .head) (self .inner) os (memory (now (nodes .entry)) (now (levels .entry)))) (λ os. chainHead 3 s (self .head) (self .inner) os (memory (now (nodes .entry)) (now (levels .entry)))) ⌝ }
+        ensures { λ r. ⌜ Gives self s (memory (now (nodes .entry)) (now (levels .entry))) r (memory (now (nodes .entry)) (now (levels .entry))) (λ a os. chainHeads 3 s (self .head) a os (memory (now (nodes .entry)) (now (levels .entry)))) (λ a os. chainHead 3 s (self .head) a os (memory (now (nodes .entry)) (now (levels .entry)))) ⌝ }
     {
         let word = cell_at(self.home_cell(nodes, levels), nodes, levels);
         if self.chain_heads(s, word, nodes, levels) {
@@ -485,15 +552,14 @@ impl Mover {
     }
 
     // ChainNext: read the next of the node remembered last.
-    pub fn chain_next(self, s: Settings, nodes: &mut [u32], levels: &mut [u32]) -> Moved
+    pub fn chain_next(self, s: Settings, nodes: &[u32], levels: &[u32]) -> Moved
         requires { ⌜ Sized s ⌝ }
         requires { ⌜ self .inner .count ≤ 8 ⌝ }
-        ensures { λ r. ⌜ Gives self s (memory (now (nodes .entry)) (now (levels .entry))) r (memory (now (nodes .exit)) (now (levels .exit))) (λ os. chainNexts s (self .inner) (now (nodes .entry))) (λ os. chainNext 3 s (self .head) (self .inner) os (memory (now (nodes .entry)) (now (levels .entry)))) ⌝ }
+        ensures { λ r. ⌜ Gives self s (memory (now (nodes .entry)) (now (levels .entry))) r (memory (now (nodes .entry)) (now (levels .entry))) (λ a os. chainNexts s a (now (nodes .entry))) (λ a os. chainNext 3 s (self .head) a os (memory (now (nodes .entry)) (now (levels .entry)))) ⌝ }
     {
         let v = self.inner;
-        let i = last_node(v);
-        let word = next_at(nodes, i);
-        if chain_nexts(s, v, i, word) {
+        let word = next_at(nodes, v.last);
+        if chain_nexts(s, v, word) {
             self.chain_word(s, word)
         } else {
             self.refused(s)
@@ -501,15 +567,15 @@ impl Mover {
     }
 
     // SetNext: write N's next = the level that it is set into.
-    pub fn set_next_word(self, s: Settings, nodes: &mut [u32], levels: &mut [u32]) -> Moved
+    pub fn set_next_word(self, s: Settings, nodes: &mut [u32], levels: &[u32]) -> Moved
         requires { ⌜ Sized s ⌝ }
         requires { ⌜ self .inner .count ≤ 8 ⌝ }
-        ensures { λ r. ⌜ Gives self s (memory (now (nodes .entry)) (now (levels .entry))) r (memory (now (nodes .exit)) (now (levels .exit))) (λ os. setNexts s (self .head) (self .inner)) (λ os. setNext 3 s (self .head) (self .inner) os (memory (now (nodes .entry)) (now (levels .entry)))) ⌝ }
+        ensures { λ r. ⌜ Gives self s (memory (now (nodes .entry)) (now (levels .entry))) r (memory (now (nodes .exit)) (now (levels .entry))) (λ a os. setNexts s (self .head) a) (λ a os. setNext 3 s (self .head) a os (memory (now (nodes .entry)) (now (levels .entry)))) ⌝ }
     {
         let h = self.head;
         let v = self.inner;
-        if set_nexts(s, h, v) {
-            set_next(nodes, last_node(v), level_ref(h.level));
+        if set_nexts(s, h, v.last) {
+            set_next(nodes, v.last, level_ref(h.level));
             self.stay(s, to(Kind::SetLook, h), v)
         } else {
             self.refused(s)
@@ -517,15 +583,15 @@ impl Mover {
     }
 
     // SetLook: read N's entry in that level.
-    pub fn set_look(self, s: Settings, nodes: &mut [u32], levels: &mut [u32]) -> Moved
+    pub fn set_look(self, s: Settings, nodes: &[u32], levels: &[u32]) -> Moved
         requires { ⌜ Sized s ⌝ }
         requires { ⌜ self .inner .count ≤ 8 ⌝ }
-        ensures { λ r. ⌜ Gives self s (memory (now (nodes .entry)) (now (levels .entry))) r (memory (now (nodes .exit)) (now (levels .exit))) (λ os. setLooks 3 s (self .head) (self .inner) (memory (now (nodes .entry)) (now (levels .entry)))) (λ os. setLook 3 s (self .head) (self .inner) os (memory (now (nodes .entry)) (now (levels .entry)))) ⌝ }
+        ensures { λ r. ⌜ Gives self s (memory (now (nodes .entry)) (now (levels .entry))) r (memory (now (nodes .entry)) (now (levels .entry))) (λ a os. setLooks 3 s (self .head) a (memory (now (nodes .entry)) (now (levels .entry)))) (λ a os. setLook 3 s (self .head) a os (memory (now (nodes .entry)) (now (levels .entry)))) ⌝ }
     {
         let h = self.head;
         let v = self.inner;
-        let x = set_cell_of(h, v, nodes, levels);
-        if set_looks(s, h, v, x, nodes, levels) {
+        let x = set_cell_of(h, v.last, nodes, levels);
+        if set_looks(s, h, v.last, x, nodes, levels) {
             let word = cell_at(x, nodes, levels);
             self.stay(s, peeked(h, word, Kind::SetPut, Kind::SetRead), v)
         } else {
@@ -537,12 +603,12 @@ impl Mover {
     pub fn set_put(self, s: Settings, nodes: &mut [u32], levels: &mut [u32]) -> Moved
         requires { ⌜ Sized s ⌝ }
         requires { ⌜ self .inner .count ≤ 8 ⌝ }
-        ensures { λ r. ⌜ Gives self s (memory (now (nodes .entry)) (now (levels .entry))) r (memory (now (nodes .exit)) (now (levels .exit))) (λ os. setPuts 3 s (self .head) (self .inner) (memory (now (nodes .entry)) (now (levels .entry)))) (λ os. setPut 3 s (self .head) (self .inner) os (memory (now (nodes .entry)) (now (levels .entry)))) ⌝ }
+        ensures { λ r. ⌜ Gives self s (memory (now (nodes .entry)) (now (levels .entry))) r (memory (now (nodes .exit)) (now (levels .exit))) (λ a os. setPuts 3 s (self .head) a (memory (now (nodes .entry)) (now (levels .entry)))) (λ a os. setPut 3 s (self .head) a os (memory (now (nodes .entry)) (now (levels .entry)))) ⌝ }
     {
         let h = self.head;
         let v = self.inner;
-        if set_puts(s, h, v, nodes, levels) {
-            let x = set_cell_of(h, v, nodes, levels);
+        if set_puts(s, h, v.last, nodes, levels) {
+            let x = set_cell_of(h, v.last, nodes, levels);
             self.place(Kind::SetRead, s, x, nodes, levels)
         } else {
             self.refused(s)
@@ -550,15 +616,15 @@ impl Mover {
     }
 
     // SetRead: read the entry again.
-    pub fn set_read(self, s: Settings, nodes: &mut [u32], levels: &mut [u32]) -> Moved
+    pub fn set_read(self, s: Settings, nodes: &[u32], levels: &[u32]) -> Moved
         requires { ⌜ Sized s ⌝ }
         requires { ⌜ self .inner .count ≤ 8 ⌝ }
-        ensures { λ r. ⌜ Gives self s (memory (now (nodes .entry)) (now (levels .entry))) r (memory (now (nodes .exit)) (now (levels .exit))) (λ os. setLooks 3 s (self .head) (self .inner) (memory (now (nodes .entry)) (now (levels .entry)))) (λ os. setRead 3 s (self .head) (self .inner) os (memory (now (nodes .entry)) (now (levels .entry)))) ⌝ }
+        ensures { λ r. ⌜ Gives self s (memory (now (nodes .entry)) (now (levels .entry))) r (memory (now (nodes .entry)) (now (levels .entry))) (λ a os. setLooks 3 s (self .head) a (memory (now (nodes .entry)) (now (levels .entry)))) (λ a os. setRead 3 s (self .head) a os (memory (now (nodes .entry)) (now (levels .entry)))) ⌝ }
     {
         let h = self.head;
         let v = self.inner;
-        let x = set_cell_of(h, v, nodes, levels);
-        if set_looks(s, h, v, x, nodes, levels) {
+        let x = set_cell_of(h, v.last, nodes, levels);
+        if set_looks(s, h, v.last, x, nodes, levels) {
             let word = cell_at(x, nodes, levels);
             self.stay(s, met_head(h, 1, named(word), word), v)
         } else {
@@ -567,10 +633,10 @@ impl Mover {
     }
 
     // SetTail: read R's next.
-    pub fn set_tail(self, s: Settings, nodes: &mut [u32], levels: &mut [u32]) -> Moved
+    pub fn set_tail(self, s: Settings, nodes: &[u32], levels: &[u32]) -> Moved
         requires { ⌜ Sized s ⌝ }
         requires { ⌜ self .inner .count ≤ 8 ⌝ }
-        ensures { λ r. ⌜ Gives self s (memory (now (nodes .entry)) (now (levels .entry))) r (memory (now (nodes .exit)) (now (levels .exit))) (λ os. tails s (self .head) (now (nodes .entry))) (λ os. setTail 3 s (self .head) (self .inner) os (memory (now (nodes .entry)) (now (levels .entry)))) ⌝ }
+        ensures { λ r. ⌜ Gives self s (memory (now (nodes .entry)) (now (levels .entry))) r (memory (now (nodes .entry)) (now (levels .entry))) (λ a os. tails s (self .head) (now (nodes .entry))) (λ a os. setTail 3 s (self .head) a os (memory (now (nodes .entry)) (now (levels .entry)))) ⌝ }
     {
         let h = self.head;
         if tails(s, h, nodes) {
@@ -586,10 +652,11 @@ impl Mover {
     pub fn set_append(self, s: Settings, nodes: &mut [u32], levels: &mut [u32]) -> Moved
         requires { ⌜ Sized s ⌝ }
         requires { ⌜ self .inner .count ≤ 8 ⌝ }
-        ensures { λ r. ⌜ Gives self s (memory (now (nodes .entry)) (now (levels .entry))) r (memory (now (nodes .exit)) (now (levels .exit))) (λ os. setAppends s (self .head) (self .inner)) (λ os. setAppend 3 s (self .head) (self .inner) os (memory (now (nodes .entry)) (now (levels .entry)))) ⌝ }
+        ensures { λ r. ⌜ Gives self s (memory (now (nodes .entry)) (now (levels .entry))) r (memory (now (nodes .exit)) (now (levels .exit))) (λ a os. setAppends s (self .head) a) (λ a os. setAppend 3 s (self .head) a os (memory (now (nodes .entry)) (now (levels .entry)))) ⌝ }
     {
         let h = self.head;
-        if set_appends(s, h, self.inner) {
+        let v = self.inner;
+        if set_appends(s, h, v.last) {
             self.place(Kind::SetFollow, s, Cell::Next(h.node), nodes, levels)
         } else {
             self.refused(s)
@@ -597,26 +664,27 @@ impl Mover {
     }
 
     // SetLevel: take a level for N.
-    pub fn set_level(self, s: Settings, nodes: &mut [u32], levels: &mut [u32]) -> Moved
+    pub fn set_level(self, s: Settings, nodes: &[u32], levels: &mut [u32]) -> Moved
         requires { ⌜ Sized s ⌝ }
         requires { ⌜ self .inner .count ≤ 8 ⌝ }
-        ensures { λ r. ⌜ Gives self s (memory (now (nodes .entry)) (now (levels .entry))) r (memory (now (nodes .exit)) (now (levels .exit))) (λ os. takesLevel 3 s (self .head) (now (levels .entry))) (λ os. setLevel 3 s (self .head) (self .inner) os (memory (now (nodes .entry)) (now (levels .entry)))) ⌝ }
+        ensures { λ r. ⌜ Gives self s (memory (now (nodes .entry)) (now (levels .entry))) r (memory (now (nodes .entry)) (now (levels .exit))) (λ a os. takesLevel 3 s (self .head) (now (levels .entry))) (λ a os. setLevel 3 s (self .head) a os (memory (now (nodes .entry)) (now (levels .entry)))) ⌝ }
     {
         let h = self.head;
         if takes_level(s, h, levels) {
-            let l = take_level(Kind::SetClose, s, h, levels);
-            self.stay(l.settings, l.head, self.inner)
+            let g = take_level(s.levels_taken, h.held_level, h.level, levels);
+            let n = holding_level(Kind::SetClose, g + 1, h);
+            self.stay(counted(s, h.held_level), n, self.inner)
         } else {
             self.refused(s)
         }
     }
 
     // SetClose: exchange R's next to the new level; done, a Move inside this Move begins.
-    pub fn set_close(self, s: Settings, nodes: &mut [u32], levels: &mut [u32]) -> Moved
+    pub fn set_close(self, s: Settings, nodes: &mut [u32], levels: &[u32]) -> Moved
         requires { ⌜ Sized s ⌝ }
         requires { ⌜ self .inner .count ≤ 8 ⌝ }
         requires { ⌜ self .moves ≤ 7 ⌝ }
-        ensures { λ r. ⌜ Gives self s (memory (now (nodes .entry)) (now (levels .entry))) r (memory (now (nodes .exit)) (now (levels .exit))) (λ os. setCloses 3 s (self .head) ((self .inner) ∷ os) (now (nodes .entry))) (λ os. setClose 3 s (self .head) (self .inner) os (memory (now (nodes .entry)) (now (levels .entry)))) ⌝ }
+        ensures { λ r. ⌜ Gives self s (memory (now (nodes .entry)) (now (levels .entry))) r (memory (now (nodes .exit)) (now (levels .entry))) (λ a os. setCloses 3 s (self .head) (a ∷ os) (now (nodes .entry))) (λ a os. setClose 3 s (self .head) a os (memory (now (nodes .entry)) (now (levels .entry)))) ⌝ }
     {
         let h = self.head;
         if self.set_closes(s, nodes) {
@@ -628,10 +696,10 @@ impl Mover {
     }
 
     // SetFollow: read R's next again.
-    pub fn set_follow(self, s: Settings, nodes: &mut [u32], levels: &mut [u32]) -> Moved
+    pub fn set_follow(self, s: Settings, nodes: &[u32], levels: &[u32]) -> Moved
         requires { ⌜ Sized s ⌝ }
         requires { ⌜ self .inner .count ≤ 8 ⌝ }
-        ensures { λ r. ⌜ Gives self s (memory (now (nodes .entry)) (now (levels .entry))) r (memory (now (nodes .exit)) (now (levels .exit))) (λ os. setFollows 3 s (self .head) (memory (now (nodes .entry)) (now (levels .entry)))) (λ os. setFollow 3 s (self .head) (self .inner) os (memory (now (nodes .entry)) (now (levels .entry)))) ⌝ }
+        ensures { λ r. ⌜ Gives self s (memory (now (nodes .entry)) (now (levels .entry))) r (memory (now (nodes .entry)) (now (levels .entry))) (λ a os. setFollows 3 s (self .head) (memory (now (nodes .entry)) (now (levels .entry)))) (λ a os. setFollow 3 s (self .head) a os (memory (now (nodes .entry)) (now (levels .entry)))) ⌝ }
     {
         let h = self.head;
         if set_follows(s, h, nodes, levels) {
@@ -647,7 +715,7 @@ impl Mover {
         requires { ⌜ Sized s ⌝ }
         requires { ⌜ self .inner .count ≤ 8 ⌝ }
         requires { ⌜ 1 ≤ self .moves ⌝ }
-        ensures { λ r. ⌜ Gives self s (memory (now (nodes .entry)) (now (levels .entry))) r (memory (now (nodes .exit)) (now (levels .exit))) (λ os. moveEnds 3 s (self .inner) os (memory (now (nodes .entry)) (now (levels .entry)))) (λ os. moveEnd 3 s (self .head) (self .inner) os (memory (now (nodes .entry)) (now (levels .entry)))) ⌝ }
+        ensures { λ r. ⌜ Gives self s (memory (now (nodes .entry)) (now (levels .entry))) r (memory (now (nodes .exit)) (now (levels .exit))) (λ a os. moveEnds 3 s a os (memory (now (nodes .entry)) (now (levels .entry)))) (λ a os. moveEnd 3 s (self .head) a os (memory (now (nodes .entry)) (now (levels .entry)))) ⌝ }
     {
         let v = self.inner;
         if self.move_ends(s, nodes, levels) {
@@ -665,22 +733,11 @@ impl Mover {
         requires { ⌜ self .inner .count ≤ 8 ⌝ }
         requires { ⌜ 1 ≤ self .moves ⌝ }
         requires { ⌜ self .moves ≤ 7 ⌝ }
-        ensures { λ r. ⌜ Gives self s (memory (now (nodes .entry)) (now (levels .entry))) r (memory (now (nodes .exit)) (now (levels .exit))) (λ os. both (isMoving (self .head .kind)) (readsBy (self .head .kind) 3 s (self .head) ((self .inner) ∷ os) (memory (now (nodes .entry)) (now (levels .entry))))) (λ os. actBy (self .head .kind) 3 s (self .head) ((self .inner) ∷ os) (memory (now (nodes .entry)) (now (levels .entry)))) ⌝ }
+        ensures { λ r. ⌜ Gives self s (memory (now (nodes .entry)) (now (levels .entry))) r (memory (now (nodes .exit)) (now (levels .exit))) (λ a os. both (isMoving (self .head .kind)) (readsBy (self .head .kind) 3 s (self .head) (a ∷ os) (memory (now (nodes .entry)) (now (levels .entry))))) (λ a os. actBy (self .head .kind) 3 s (self .head) (a ∷ os) (memory (now (nodes .entry)) (now (levels .entry)))) ⌝ }
     {
         let h = self.head;
         let k = h.kind;
         match k {
-            Kind::Idle => self.refused(s),
-            Kind::Look => self.refused(s),
-            Kind::Take => self.refused(s),
-            Kind::Put => self.refused(s),
-            Kind::Read => self.refused(s),
-            Kind::Tail => self.refused(s),
-            Kind::TakeTail => self.refused(s),
-            Kind::Append => self.refused(s),
-            Kind::Level => self.refused(s),
-            Kind::Close => self.refused(s),
-            Kind::Follow => self.refused(s),
             Kind::ChainHead => self.chain_head(s, nodes, levels),
             Kind::ChainNext => self.chain_next(s, nodes, levels),
             Kind::SetNext => self.set_next_word(s, nodes, levels),
@@ -693,7 +750,7 @@ impl Mover {
             Kind::SetClose => self.set_close(s, nodes, levels),
             Kind::SetFollow => self.set_follow(s, nodes, levels),
             Kind::MoveEnd => self.move_end(s, nodes, levels),
-            Kind::Unknown => self.refused(s),
+            _ => self.refused(s),
         }
     }
 }

@@ -1,19 +1,24 @@
--- Kinds and answers by number: a kind's number gives the kind again, and what a number past the last kind gives.
+-- Kinds and answers by number: a kind's number gives the kind again, what a number past the last kind gives, and a kind known among several.
 -- Relies on words for a rule of all entries of a table.
 use mathlib.Core.Path.{_≡_, refl, sym, ap, _∙_}
 use mathlib.Core.Bool.{Bool, true, false}
-use mathlib.Core.List.{[], _∷_}
+use mathlib.Core.Logic.{inl, inr}
+use mathlib.Core.List.{List, [], _∷_}
 use Prim.Native.Nat.{ℕ, zero, suc, _≤_}
 use native.Mathlib.Omega.{arith}
 use lib.Dec.{leb, eqb}
 use lib.ListN.{List·getD-eq-default, replicate}
 use borrow.Author.Tests.{eqb-true, ne-eqb, leb-true, leb-false}
-use Rattle.words.specs.Choice.{both}
+use denote.Enum.Declared.{tagOf}
+use types.Run.{OneOf}
+use Rattle.words.specs.Choice.{both, every}
+use Rattle.words.proofs.Choice.{both-left, both-right}
 use Rattle.words.proofs.Table.{at}
 use Rattle.record.specs.declared.Kind.{Kind}
 use Rattle.record.specs.declared.Kind.the-variants.{Idle, Look, Take, Put, Read, Tail, TakeTail, Append, Level, Close, Follow, ChainHead, ChainNext, SetNext, SetLook, SetPut, SetRead, SetTail, SetAppend, SetLevel, SetClose, SetFollow, MoveEnd, Unknown}
 use Rattle.record.specs.declared.Answer.the-variants.{Nothing, New, Found, Full}
 use Rattle.record.specs.Kinds.{kinds, kindOf, kindNo, answerOf}
+use Rattle.record.proofs.Kind.{the-type}
 
 -- a kind's number gives the kind again
 pub kind-back : (k : Kind) → kindOf (kindNo k) ≡ k
@@ -86,3 +91,42 @@ number-back n h = go (leb n 22) refl
     go true t = number-known n (leb-true _ _ t)
     go false t =
         let e : 23 ≡ kindNo (kindOf n) = number-none ∙ ap kindNo (unknown (leb-false _ _ t)) in absurd (omega arith)
+
+-- a kind's place among the variants is its number
+kind-place : (k : Kind) → tagOf the-type k ≡ kindNo k
+unfolding kindNo
+kind-place Idle = refl
+kind-place Look = refl
+kind-place Take = refl
+kind-place Put = refl
+kind-place Read = refl
+kind-place Tail = refl
+kind-place TakeTail = refl
+kind-place Append = refl
+kind-place Level = refl
+kind-place Close = refl
+kind-place Follow = refl
+kind-place ChainHead = refl
+kind-place ChainNext = refl
+kind-place SetNext = refl
+kind-place SetLook = refl
+kind-place SetPut = refl
+kind-place SetRead = refl
+kind-place SetTail = refl
+kind-place SetAppend = refl
+kind-place SetLevel = refl
+kind-place SetClose = refl
+kind-place SetFollow = refl
+kind-place MoveEnd = refl
+kind-place Unknown = refl
+
+-- what holds of each number among which a `match` knows a kind to be holds of the kind's number
+among : (f : ℕ → Bool) (ks : List ℕ) (n : ℕ) → OneOf ks n → every f ks ≡ true → f n ≡ true
+unfolding every
+among f [] n h e = absurd h
+among f (k ∷ []) n h e = ap f h ∙ both-left _ _ e
+among f (k ∷ j ∷ ks) n (inl h) e = ap f h ∙ both-left _ _ e
+among f (k ∷ j ∷ ks) n (inr h) e = among f (j ∷ ks) n h (both-right (f k) _ e)
+
+pub kind-among : (k : Kind) (f : ℕ → Bool) (ks : List ℕ) → OneOf ks (tagOf the-type k) → every f ks ≡ true → f (kindNo k) ≡ true
+kind-among k f ks h e = ap f (sym (kind-place k)) ∙ among f ks _ h e

@@ -159,14 +159,14 @@ pub fn answer_of(code: u32, node: u32) -> Answer
 }
 
 // The first word of worker i.
-fn worker_place(i: u32) -> usize
+pub fn worker_place(i: u32) -> usize
     ensures { λ r. ⌜ (r ≡ workerPlace 3 i) × (r ≤ 549755813760) ⌝ }
 {
     (Settings::WORKER_WORDS as usize) * (i as usize)
 }
 
 // The first word of Move j of worker i.
-fn move_place(i: u32, j: u32) -> usize
+pub fn move_place(i: u32, j: u32) -> usize
     ensures { λ r. ⌜ (r ≡ movePlace 3 i j) × (r ≤ 600000000000) ⌝ }
 {
     worker_place(i) + 16 + 11 * (j as usize)

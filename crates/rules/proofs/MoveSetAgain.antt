@@ -47,7 +47,7 @@ module _ {w : ℕ} {s₀ s : Settings} {m : Memory} {W : WorldOf w s₀} {ws : �
   again-asks at-entry o y = both-true (puts-ok o) (spot-ok a (standing o))
   again-asks (at-node R C) o y =
       both-true (both-true (stands-ok a (standing o)) (spot-ok a (standing o)))
-      (ap (λ u. goesBack w s h u (m .levels)) (spot-reads a (standing o)) ∙ back-ok a (standing o) y)
+      (ap (λ u. goesBack w (s .«levels_taken») (h .level) u (m .levels)) (spot-reads a (standing o)) ∙ back-ok a (standing o) y)
 
   again-word : {x : Pos} (o : Setter a f fs N T x) → word W (W .pixel N) T x ≢ levelRef T → {r : ℕ} → r ≡ word W (W .pixel N) T x → TurnOk w s₀ W ws i (setMet s h v os (countFrom s h x) (goesTo w h (m .levels) x (named r)) r m)
   again-word {x} o y {r} u = by (turns.set-reads-next (a .inv .structure) (a .inv .partition) (sets-by o (set-reads (o .setting) y)))

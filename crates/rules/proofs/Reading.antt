@@ -133,7 +133,7 @@ module _ {w : ℕ} {s₀ s : Settings} {m : Memory} {W : WorldOf w s₀} (T : Ta
       by (no e) q = pick-false _ _ _ (ne-eqb _ _ e) ∙ q ∙ sym (theory.pick-no (no e) _ _ e)
 
   -- within n previous words, where the level is at most n deeper than H
-  meets-within : (S : Structure W) (n : ℕ) {H e t : ℕ} → W .tree .into H e ≢ 0 → Inside (W .tree) (W .tree .into H e) t → W .tree .depth t ≤ W .tree .depth H + n → backMeets w s (m .levels) n H t ≡ true
+  meets-within : (S : Structure W) (n : ℕ) {H e t : ℕ} → W .tree .into H e ≢ 0 → Inside (W .tree) (W .tree .into H e) t → W .tree .depth t ≤ W .tree .depth H + n → backMeets w (s .«levels_taken») (m .levels) n H t ≡ true
   unfolding backMeets
   meets-within S zero {H} {e} z i h = absurd (omega (arith, inside-depth (S .tree-ok) i, closed-depth (S .tree-ok) H e z))
   meets-within S (suc n) {H} {e} {t} z (here q) h =
@@ -146,9 +146,9 @@ module _ {w : ℕ} {s₀ s : Settings} {m : Memory} {W : WorldOf w s₀} (T : Ta
       let j : Inside (W .tree) (W .tree .into H e) (previousAt w (m .levels) t) = rw r i in
       let d = ap (W .tree .depth) r in
       pick-false _ _ _ (ne-eqb (previousAt w (m .levels) t) H (λ q. not-inside (S .tree-ok) H e z (rw q at j)))
-      ∙ both-true (level-taken (previousAt w (m .levels) t) (λ x. omega (arith, ap (W .tree .levelOwner) r, k .parent))) (meets-within S n z j (omega (arith, k .deeper)))
+      ∙ both-true (lt-ltb (previousAt w (m .levels) t) (s .«levels_taken») (level-below (previousAt w (m .levels) t) (λ x. omega (arith, ap (W .tree .levelOwner) r, k .parent)))) (meets-within S n z j (omega (arith, k .deeper)))
 
-  pub back-meets : (S : Structure W) {H e t : ℕ} → W .tree .into H e ≢ 0 → Inside (W .tree) (W .tree .into H e) t → backMeets w s (m .levels) (depths w - 1) H t ≡ true
+  pub back-meets : (S : Structure W) {H e t : ℕ} → W .tree .into H e ≢ 0 → Inside (W .tree) (W .tree .into H e) t → backMeets w (s .«levels_taken») (m .levels) (depths w - 1) H t ≡ true
   back-meets S {H} {e} {t} z i = meets-within S (depths w - 1) z i (omega (arith, S .tree-ok .bounded t (inside-pub (S .tree-ok .closed H e z .to) i)))
 
 -- what a reference to something published or placed names is taken

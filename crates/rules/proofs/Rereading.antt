@@ -61,14 +61,14 @@ module _ {w : ℕ} {s₀ s : Settings} {m : Memory} {W : WorldOf w s₀} {ws : �
           ∙ child-of (a .table) (depths w - 1) H t
           ∙ g (previousAt w (m .levels)) (λ u q. previous-reads (a .table) u (not-free q)) (depths w - 1) (omega arith)
 
-  pub back-ok : word W K H x ≢ levelRef H → goesBack w s (r .head) (word W K H x) (m .levels) ≡ true
+  pub back-ok : word W K H x ≢ levelRef H → goesBack w (s .«levels_taken») (r .head .level) (word W K H x) (m .levels) ≡ true
   unfolding goesBack
   back-ok y = by (leads-on a o y)
     where
-      by : Met W P H (digit (dims w (s₀ .limit)) K (W .tree .depth H)) x (word W K H x) → goesBack w s (r .head) (word W K H x) (m .levels) ≡ true
-      by (met-node R q d f) = ap (λ v. goesBack w s (r .head) v (m .levels)) q ∙ pick-true _ _ _ (node-ref R)
+      by : Met W P H (digit (dims w (s₀ .limit)) K (W .tree .depth H)) x (word W K H x) → goesBack w (s .«levels_taken») (r .head .level) (word W K H x) (m .levels) ≡ true
+      by (met-node R q d f) = ap (λ v. goesBack w (s .«levels_taken») (r .head .level) v (m .levels)) q ∙ pick-true _ _ _ (node-ref R)
       by (met-level t q z k f d) =
-          ap (λ v. goesBack w s (r .head) v (m .levels)) q ∙ pick-false _ _ _ (level-ref t)
-          ∙ ap (λ j. backMeets w s (m .levels) (depths w - 1) (r .head .level) j) (named-level t)
-          ∙ ap (λ g. backMeets w s (m .levels) (depths w - 1) g t) (o .level-is)
+          ap (λ v. goesBack w (s .«levels_taken») (r .head .level) v (m .levels)) q ∙ pick-false _ _ _ (level-ref t)
+          ∙ ap (λ j. backMeets w (s .«levels_taken») (m .levels) (depths w - 1) (r .head .level) j) (named-level t)
+          ∙ ap (λ g. backMeets w (s .«levels_taken») (m .levels) (depths w - 1) g t) (o .level-is)
           ∙ back-meets (a .table) (a .inv .structure) z k

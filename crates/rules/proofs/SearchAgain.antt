@@ -118,7 +118,7 @@ module _ {w : ℕ} {s₀ s : Settings} {m : Memory} {W : WorldOf w s₀} {ws : �
   pub again-asks : (x : Pos) → Searcher a (again H x) H x → Local W (owner i) (ws i .key) (ws i .since) (again H x) → asked.readsBy (searchKind (again H x)) w s (r .head) (r .moves) m ≡ true
   unfolding asked.readsBy asked.reads asked.follows cellAt spec.entryOf
   again-asks at-entry o l = both-true (picks-ok a (standing o)) (compares-ok o l)
-  again-asks (at-node R C) o l = both-true (stands-ok a (standing o)) (both-true (compares-ok o l) (ap (λ v. asked.goesBack w s (r .head) v (m .levels)) (spot-reads a (standing o)) ∙ back-ok a (standing o) (not-H o l)))
+  again-asks (at-node R C) o l = both-true (stands-ok a (standing o)) (both-true (compares-ok o l) (ap (λ v. asked.goesBack w (s .«levels_taken») (r .head .level) v (m .levels)) (spot-reads a (standing o)) ∙ back-ok a (standing o) (not-H o l)))
 
   pub again-turn : (x : Pos) (o : Searcher a (again H x) H x) → Local W (owner i) (ws i .key) (ws i .since) (again H x) → TurnOk w s₀ W ws i (actBy (searchKind (again H x)) w s (r .head) (r .moves) m)
   unfolding actBy spec.read spec.readWord spec.follow spec.followWord cellAt spec.entryOf

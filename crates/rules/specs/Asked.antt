@@ -68,8 +68,8 @@ unfoldable pub comparesRef : Settings → ℕ → List ℕ → Bool
 comparesRef s word nodes = pick (isNode word) (pixelFits s (named word) nodes) (levelTaken s (named word))
 
 -- Follow and SetFollow: "does going back meet its level within 7 moves (previous words read)"
-unfoldable pub goesBack : ℕ → Settings → Head → ℕ → List ℕ → Bool
-goesBack w s h word levels = pick (isNode word) true (backMeets w s levels (depths w - 1) (h .level) (named word))
+unfoldable pub goesBack : ℕ → ℕ → ℕ → ℕ → List ℕ → Bool
+goesBack w taken level word levels = pick (isNode word) true (backMeets w taken levels (depths w - 1) level (named word))
 
 -- Level and SetLevel: "depths, a new level's too, at most 7", "is a needed level left?"
 unfoldable pub levelLeft : ℕ → Settings → Head → List ℕ → Bool
@@ -125,7 +125,7 @@ appends s h = both (standsAt s h) (nodeInHand s h)
 unfoldable pub follows : ℕ → Settings → Head → Memory → Bool
 follows w s h m =
     both (standsAt s h)
-    (both (comparesRef s (nextAt (m .nodes) (h .node)) (m .nodes)) (goesBack w s h (nextAt (m .nodes) (h .node)) (m .levels)))
+    (both (comparesRef s (nextAt (m .nodes) (h .node)) (m .nodes)) (goesBack w (s .«levels_taken») (h .level) (nextAt (m .nodes) (h .node)) (m .levels)))
 
 -- ChainHead, MoveEnd: the entry of the key in H
 unfoldable pub picksHome : ℕ → Settings → Move → List Move → Memory → Bool
@@ -162,7 +162,7 @@ unfoldable pub setCloses : ℕ → Settings → Head → List Move → List ℕ 
 setCloses w s h ms nodes = both (closes s h) (moveLeft w h ms nodes)
 
 unfoldable pub setFollows : ℕ → Settings → Head → Memory → Bool
-setFollows w s h m = both (tails s h (m .nodes)) (goesBack w s h (nextAt (m .nodes) (h .node)) (m .levels))
+setFollows w s h m = both (tails s h (m .nodes)) (goesBack w (s .«levels_taken») (h .level) (nextAt (m .nodes) (h .node)) (m .levels))
 
 -- what question 6 asks of a turn besides that the record fits, by kind
 unfoldable pub readsBy : Kind → ℕ → Settings → Head → List Move → Memory → Bool

@@ -6,7 +6,7 @@ use mathlib.Core.List.{List, [], _∷_}
 use lib.Dec.{eqb, ltb, leb}
 use Rattle.words.specs.Choice.{pick, both}
 use Rattle.settings.specs.declared.Settings.{Settings}
-use Rattle.areas.specs.Memory.{Memory, memory, levelRef, nextAt, previousAt, depthAt, setCell, fillNode, fillLevel, levelTaken}
+use Rattle.areas.specs.Memory.{Memory, memory, levelRef, nextAt, previousAt, depthAt, setCell, fillNode, fillLevel}
 use Rattle.areas.specs.declared.Cell.the-variants.{Next}
 use Rattle.record.specs.declared.Kind.{Kind}
 use Rattle.record.specs.declared.Kind.the-variants.{ChainHead}
@@ -90,10 +90,10 @@ unfoldable pub childOf : ℕ → List ℕ → ℕ → ℕ → ℕ → ℕ
 childOf w levels zero g t = t
 childOf w levels (suc n) g t = pick (eqb (previousAt w levels t) g) t (childOf w levels n g (previousAt w levels t))
 
--- whether it is met, each previous word on the way naming a taken level
-unfoldable pub backMeets : ℕ → Settings → List ℕ → ℕ → ℕ → ℕ → Bool
-backMeets w s levels zero g t = false
-backMeets w s levels (suc n) g t =
+-- whether it is met, each previous word on the way naming a taken level: a number below that of the levels taken
+unfoldable pub backMeets : ℕ → ℕ → List ℕ → ℕ → ℕ → ℕ → Bool
+backMeets w taken levels zero g t = false
+backMeets w taken levels (suc n) g t =
     pick (eqb (previousAt w levels t) g)
     true
-    (both (levelTaken s (previousAt w levels t)) (backMeets w s levels n g (previousAt w levels t)))
+    (both (ltb (previousAt w levels t) taken) (backMeets w taken levels n g (previousAt w levels t)))

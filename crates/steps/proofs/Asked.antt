@@ -59,14 +59,14 @@ module _ (s : Settings) (word : ℕ) (nodes : List ℕ) where
   compares-level a b e = simp (e, a, b)
 
 -- a word that is followed: from a level the way goes back
-module _ (w : ℕ) (s : Settings) (h : Head) (word : ℕ) (levels : List ℕ) where
-  pub goes-node : isNode word ≡ true → true ≡ goesBack w s h word levels
+module _ (w taken level word : ℕ) (levels : List ℕ) where
+  pub goes-node : isNode word ≡ true → true ≡ goesBack w taken level word levels
   unfolding goesBack pick
   goes-node e = simp e
 
   pub goes-level :
       {r : Bool} {n : ℕ}
-      → r ≡ backMeets w s levels (depths w - 1) (h .level) n → n ≡ named word → isNode word ≡ false → r ≡ goesBack w s h word levels
+      → r ≡ backMeets w taken levels (depths w - 1) level n → n ≡ named word → isNode word ≡ false → r ≡ goesBack w taken level word levels
   unfolding goesBack pick
   goes-level a b e = simp (e, a, b)
 

@@ -1,12 +1,16 @@
 -- The steps that searching and moving share, in the code: one law for each way, over any width, next kind and count.
 -- Relies on rules for what a step does.
-use mathlib.Core.Path.{_≡_}
+use mathlib.Core.Path.{_≡_, ap}
 use mathlib.Core.Bool.{true, false}
 use mathlib.Core.List.{List}
-use Prim.Native.Nat.{ℕ, _+_, _*_, _-_}
+use Prim.Native.Nat.{ℕ, _+_, _*_, _-_, _≤_}
 use lib.Dec.{eqb, ltb}
 use lib.ListN.{set}
+use native.Mathlib.Omega.{arith}
+use mir.Syntax.{w32}
+use mir.Val.{Fits}
 use Rattle.words.specs.Choice.{pick}
+use Rattle.words.proofs.Choice.{pick-both}
 use Rattle.settings.specs.declared.Settings.{Settings}
 use Rattle.areas.specs.Memory.{levelRef, nextAt, depthAt, fillLevel}
 use Rattle.record.specs.declared.Kind.{Kind}
@@ -14,7 +18,7 @@ use Rattle.record.specs.declared.Kind.the-variants.{ChainHead}
 use Rattle.record.specs.declared.Head.{Head}
 use Rattle.rules.specs.Heads.{to, holdingLevel}
 use Rattle.rules.specs.Steps.{expected, peeked, byCount, tookLevel}
-use Rattle.steps.specs.Cut.{LevelCut, levelCut, withLevelCut, takeLevelCut, closeCut, closedCut}
+use Rattle.steps.specs.Cut.{LevelCut, levelCut, levelNo, levelCounted, takeLevelCut, closeCut, closedCut}
 
 -- a cell is looked at
 module _ (h : Head) (word : ℕ) (here other : Kind) where
@@ -40,26 +44,34 @@ module _ (s : Settings) (c : ℕ) (below full past : Kind) where
   unfolding byCount pick
   count-past e f = simp (e, f)
 
--- a level is taken
-module _ (w : ℕ) (k : Kind) (s : Settings) (h : Head) (levels : List ℕ) where
-  pub level-filled :
-      (g : ℕ) {x : Head} {l : List ℕ} {d : ℕ}
-      → x ≡ holdingLevel k (g + 1) h → l ≡ fillLevel w levels g (h .level) (d + 1) → d ≡ depthAt w levels (h .level)
-      → levelCut s x l ≡ withLevelCut w k s h g levels
-  unfolding withLevelCut
-  level-filled g a b c = simp (a, b, c)
+-- a level is taken: it counts where it is the next number
+module _ (s : Settings) (held : ℕ) where
+  pub counted-next : {t : Settings} → t ≡ tookLevel s → eqb held 0 ≡ true → t ≡ levelCounted s held
+  unfolding levelCounted pick
+  counted-next a e = simp (e, a)
 
-  pub take-level-next :
-      {t : LevelCut} {s′ : Settings}
-      → t ≡ withLevelCut w k s′ h (s .«levels_taken») levels → s′ ≡ tookLevel s → eqb (h .«held_level») 0 ≡ true → t ≡ takeLevelCut w k s h levels
-  unfolding takeLevelCut pick
-  take-level-next a b e = simp (e, a, b)
+  pub counted-spare : eqb held 0 ≡ false → s ≡ levelCounted s held
+  unfolding levelCounted pick
+  counted-spare e = simp e
 
-  pub take-level-spare :
-      {t : LevelCut}
-      → t ≡ withLevelCut w k s h (h .«held_level» - 1) levels → eqb (h .«held_level») 0 ≡ false → t ≡ takeLevelCut w k s h levels
-  unfolding takeLevelCut pick
-  take-level-spare a e = simp (e, a)
+-- its number is in range, and it is filled
+module _ (taken held : ℕ) where
+  pub number-most : {g : ℕ} → g ≡ levelNo taken held → taken ≤ 28689 → held ≤ 28689 → g ≤ 28689
+  unfolding levelNo
+  number-most a t n = rw a (pick-both (λ (g : ℕ). g ≤ 28689) (eqb held 0) (λ e. t) (λ e. omega arith))
+
+  module _ (w level : ℕ) (levels : List ℕ) where
+    pub level-filled :
+        {g d : ℕ} {l : List ℕ}
+        → l ≡ fillLevel w levels g level (d + 1) → d ≡ depthAt w levels level → g ≡ levelNo taken held
+        → levelCut g l ≡ takeLevelCut w taken held level levels
+    unfolding takeLevelCut
+    level-filled a b c = simp (a, b, c)
+
+    -- so is the number + 1, by which it is held
+    pub taken-fits : {g : ℕ} {l : List ℕ} → levelCut g l ≡ takeLevelCut w taken held level levels → taken ≤ 28689 → held ≤ 28689 → Fits w32 (g + 1)
+    unfolding takeLevelCut
+    taken-fits {g} a t n = let b : g ≤ 28689 = number-most (ap (λ (c : LevelCut). c .level) a) t n in record { fits = omega arith }
 
 -- R's next is exchanged
 module _ (failed : Kind) (h : Head) (nodes : List ℕ) where

@@ -3,7 +3,7 @@
 use mathlib.Core.Path.{_≡_, refl}
 use mathlib.Core.Bool.{Bool, true, false}
 use mathlib.Core.List.{List, _∷_}
-use Prim.Native.Nat.{ℕ, _≤_, _-_}
+use Prim.Native.Nat.{ℕ, _+_, _-_, _≤_}
 use lib.Dec.{eqb}
 use borrow.Author.Tests.{ne-eqb}
 use native.Mathlib.Omega.{arith}
@@ -17,7 +17,7 @@ use Rattle.record.specs.declared.Move.{Move}
 use Rattle.record.specs.Layout.{newMove}
 use Rattle.rules.specs.Heads.{to, holdingLevel}
 use Rattle.rules.specs.Steps.{Step, going, withLevel, takeLevel, closed}
-use Rattle.steps.specs.Cut.{LevelCut, withLevelCut, takeLevelCut, CloseCut, closedCut, begun}
+use Rattle.steps.specs.Cut.{levelNo, levelCounted, takeLevelCut, CloseCut, closedCut, begun}
 
 -- a choice of values of a function is its value at the choice
 pub pick-along {ℓ κ} :
@@ -25,6 +25,13 @@ pub pick-along {ℓ κ} :
 unfolding pick
 pick-along f true x y p q = p
 pick-along f false x y p q = q
+
+-- the same of two choices by one test
+pub pick-alongside {ℓ κ ι} :
+    {A : Type ℓ} {B : Type κ} {C : Type ι} (f : A → B → C) (b : Bool) (x y : A) (u v : B) → pick b (f x u) (f y v) ≡ f (pick b x y) (pick b u v)
+unfolding pick
+pick-alongside f true x y u v = refl
+pick-alongside f false x y u v = refl
 
 module _ (g : ℕ) (ms : List Move) where
   pub begun-none : begun g 0 ms ≡ ms
@@ -36,16 +43,17 @@ module _ (g : ℕ) (ms : List Move) where
   begun-one {c} h = simp (ne-eqb c 0 (λ e. omega arith))
 
 module _ (w : ℕ) (s : Settings) (h : Head) (ms : List Move) (m : Memory) where
-  abbrev pub leveled : LevelCut → Step
-  leveled c = going (c .settings) (c .head) ms (memory (m .nodes) (c .levels))
-
   abbrev pub closedTo : CloseCut → Step
   closedTo c = going s (c .head) (begun (h .level) (c .child) ms) (memory (c .nodes) (m .levels))
 
   -- Level, SetLevel
-  pub take-level-cut : (k : Kind) → takeLevel w k s h ms m ≡ leveled (takeLevelCut w k s h (m .levels))
-  unfolding takeLevel takeLevelCut withLevel withLevelCut
-  take-level-cut k = pick-along leveled (eqb (h .«held_level») 0) _ _ refl refl
+  pub take-level-cut :
+      (k : Kind)
+      → takeLevel w k s h ms m
+      ≡ going (levelCounted s (h .«held_level»)) (holdingLevel k (takeLevelCut w (s .«levels_taken») (h .«held_level») (h .level) (m .levels) .level + 1) h) ms
+      (memory (m .nodes) (takeLevelCut w (s .«levels_taken») (h .«held_level») (h .level) (m .levels) .levels))
+  unfolding takeLevel withLevel levelCounted levelNo takeLevelCut
+  take-level-cut k = pick-alongside (λ (t : Settings) (g : ℕ). withLevel w k t h ms g m) (eqb (h .«held_level») 0) _ _ _ _
 
   -- Close, SetClose
   pub closed-cut : (failed : Kind) → 1 ≤ h .«held_level» → closed w failed s h ms m ≡ closedTo (closedCut failed h (m .nodes))

@@ -1,5 +1,5 @@
--- Level and Close in the parts that the code hands over: settings, head and the area that changes. They follow the code's cut and are tied
--- to the definitions by lemmas. Relies on rules for the steps.
+-- Level and Close in the parts that the code hands over: numbers, settings, head and the area that changes. They follow the code's cut and
+-- are tied to the definitions by lemmas. Relies on rules for the steps.
 use Prim.Native.Nat.{ℕ, _+_, _*_, _-_}
 use mathlib.Core.List.{List, _∷_}
 use lib.Dec.{eqb}
@@ -16,23 +16,24 @@ use Rattle.record.specs.Layout.{newMove}
 use Rattle.rules.specs.Heads.{to, holdingLevel}
 use Rattle.rules.specs.Steps.{expected, tookLevel}
 
--- Level, SetLevel: settings, head, levels
+-- Level, SetLevel: the number of the level that is taken, and the levels
 pub record LevelCut : Type 0 where
-  pub settings : Settings
-  pub head : Head
+  pub level : ℕ
   pub levels : List ℕ
 
-abbrev pub levelCut : Settings → Head → List ℕ → LevelCut
-levelCut s h l = record { settings = s; head = h; levels = l }
+abbrev pub levelCut : ℕ → List ℕ → LevelCut
+levelCut g l = record { level = g; levels = l }
 
-unfoldable pub withLevelCut : ℕ → Kind → Settings → Head → ℕ → List ℕ → LevelCut
-withLevelCut w k s h g l = levelCut s (holdingLevel k (g + 1) h) (fillLevel w l g (h .level) (depthAt w l (h .level) + 1))
+-- the spare level, else the next number
+unfoldable pub levelNo : ℕ → ℕ → ℕ
+levelNo taken held = pick (eqb held 0) taken (held - 1)
 
-unfoldable pub takeLevelCut : ℕ → Kind → Settings → Head → List ℕ → LevelCut
-takeLevelCut w k s h l =
-    pick (eqb (h .«held_level») 0)
-    (withLevelCut w k (tookLevel s) h (s .«levels_taken») l)
-    (withLevelCut w k s h (h .«held_level» - 1) l)
+-- the next number counts, a spare one was counted before
+unfoldable pub levelCounted : Settings → ℕ → Settings
+levelCounted s held = pick (eqb held 0) (tookLevel s) s
+
+unfoldable pub takeLevelCut : ℕ → ℕ → ℕ → ℕ → List ℕ → LevelCut
+takeLevelCut w taken held level l = levelCut (levelNo taken held) (fillLevel w l (levelNo taken held) level (depthAt w l level + 1))
 
 -- Close, SetClose: head, the number + 1 of the level that a Move has begun to, or 0, and the nodes
 pub record CloseCut : Type 0 where

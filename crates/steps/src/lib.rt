@@ -8,7 +8,7 @@ ghost use Rattle.areas.specs.Memory.{memory, depthAt};
 ghost use Rattle.rules.specs.Heads.{to, toLevel, toNode, holdingNode, holdingLevel, ended};
 ghost use Rattle.rules.specs.Steps.{peeked, byCount, more, tookNode, tookLevel, childOf, backMeets};
 ghost use Rattle.rules.specs.Asked.{nodeInHand, levelInHand, picksIn, pixelFits, readsRef, comparesRef, goesBack, levelLeft, standsAt, tails, takesLevel, closes};
-ghost use Rattle.steps.specs.Cut.{levelCut, takeLevelCut, withLevelCut, closeCut, closedCut};
+ghost use Rattle.steps.specs.Cut.{levelCut, levelNo, levelCounted, takeLevelCut, closeCut, closedCut};
 use areas::Cell;
 use areas::cell_at;
 use areas::depth_at;
@@ -30,12 +30,6 @@ use settings::Settings;
 use words::and;
 use words::le;
 use words::lt;
-
-// What Level and SetLevel leave: settings and head.
-pub struct Leveled {
-    pub settings: Settings,
-    pub head: Head,
-}
 
 // What Close and SetClose leave: the head, and the number + 1 of the level that a Move has begun to, or 0.
 pub struct Closed {
@@ -157,7 +151,7 @@ pub fn holding_level(k: Kind, g: u32, h: Head) -> Head
     n
 }
 
-pub fn took_level(s: Settings) -> Settings
+fn took_level(s: Settings) -> Settings
     requires { ⌜ Sized s ⌝ }
     ensures { λ r. ⌜ r ≡ tookLevel s ⌝ }
 {
@@ -203,8 +197,8 @@ pub fn child_of(levels: &[u32], g: u32, t: u32) -> u32
 }
 
 // Whether that level is met, each previous word on the way naming a taken level.
-pub fn back_meets(s: Settings, levels: &[u32], g: u32, t: u32) -> bool
-    ensures { λ r. ⌜ r ≡ backMeets 3 s (now (levels .entry)) (depths 3 - 1) g t ⌝ }
+pub fn back_meets(taken: u32, levels: &[u32], g: u32, t: u32) -> bool
+    ensures { λ r. ⌜ r ≡ backMeets 3 taken (now (levels .entry)) (depths 3 - 1) g t ⌝ }
 {
     let mut at = t;
     let mut n = Settings::DEPTHS - 1;
@@ -213,7 +207,7 @@ pub fn back_meets(s: Settings, levels: &[u32], g: u32, t: u32) -> bool
         if p == g {
             return true;
         }
-        if level_taken(s, p) {
+        if lt(p, taken) {
             at = p;
             n -= 1;
         } else {
@@ -229,13 +223,13 @@ pub fn level_in_hand(s: Settings, h: Head) -> bool
     and(le(1, h.held_level), le(h.held_level, s.levels_taken))
 }
 
-pub fn goes_back(s: Settings, h: Head, word: u32, levels: &[u32]) -> bool
-    ensures { λ r. ⌜ r ≡ goesBack 3 s h word (now (levels .entry)) ⌝ }
+pub fn goes_back(taken: u32, level: u32, word: u32, levels: &[u32]) -> bool
+    ensures { λ r. ⌜ r ≡ goesBack 3 taken level word (now (levels .entry)) ⌝ }
 {
     if is_node(word) {
         true
     } else {
-        back_meets(s, levels, h.level, named(word))
+        back_meets(taken, levels, level, named(word))
     }
 }
 
@@ -280,32 +274,32 @@ pub fn closes(s: Settings, h: Head) -> bool
     and(stands_at(s, h), level_in_hand(s, h))
 }
 
-// Level g is filled, and in hand for the next kind.
-fn with_level(k: Kind, s: Settings, h: Head, g: u32, levels: &mut [u32]) -> Leveled
-    requires { ⌜ g ≤ 28689 ⌝ }
-    requires { ⌜ depthAt 3 (now levels) (h .level) ≤ 6 ⌝ }
-    ensures { λ r. ⌜ levelCut (r .settings) (r .head) (now (levels .exit)) ≡ withLevelCut 3 k s h g (now (levels .entry)) ⌝ }
+// The level that Level and SetLevel take: the spare one, else the next number.
+fn level_number(taken: u32, held: u32) -> u32
+    ensures { λ r. ⌜ r ≡ levelNo taken held ⌝ }
 {
-    let d = depth_at(levels, h.level) + 1;
-    fill_level(levels, g, h.level, d);
-    Leveled {
-        settings: s,
-        head: holding_level(k, g + 1, h),
-    }
+    if held == 0 { taken } else { held - 1 }
 }
 
-// The spare level is used, else the next number.
-pub fn take_level(k: Kind, s: Settings, h: Head, levels: &mut [u32]) -> Leveled
+// The settings once it is taken: the next number counts, a spare one was counted before.
+pub fn counted(s: Settings, held: u32) -> Settings
     requires { ⌜ Sized s ⌝ }
-    requires { ⌜ h .«held_level» ≤ 28689 ⌝ }
-    requires { ⌜ depthAt 3 (now levels) (h .level) ≤ 6 ⌝ }
-    ensures { λ r. ⌜ levelCut (r .settings) (r .head) (now (levels .exit)) ≡ takeLevelCut 3 k s h (now (levels .entry)) ⌝ }
+    ensures { λ r. ⌜ r ≡ levelCounted s held ⌝ }
 {
-    if h.held_level == 0 {
-        with_level(k, took_level(s), h, s.levels_taken, levels)
-    } else {
-        with_level(k, s, h, h.held_level - 1, levels)
-    }
+    if held == 0 { took_level(s) } else { s }
+}
+
+// A level is taken: the one of that number is filled, one deeper than `level`.
+pub fn take_level(taken: u32, held: u32, level: u32, levels: &mut [u32]) -> u32
+    requires { ⌜ taken ≤ 28689 ⌝ }
+    requires { ⌜ held ≤ 28689 ⌝ }
+    requires { ⌜ depthAt 3 (now levels) level ≤ 6 ⌝ }
+    ensures { λ g. ⌜ levelCut g (now (levels .exit)) ≡ takeLevelCut 3 taken held level (now (levels .entry)) ⌝ }
+{
+    let g = level_number(taken, held);
+    let d = depth_at(levels, level) + 1;
+    fill_level(levels, g, level, d);
+    g
 }
 
 // R's next is exchanged from the worker's level to the level in hand.

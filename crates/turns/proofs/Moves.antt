@@ -1,12 +1,11 @@
 -- A turn of a moving worker: what a record that fits says of its Moves, and the ways in which the turn ends.
 -- Relies on mover for the turn, and on the ways in which a turn ends.
 use Prim.Native.Nat.{ℕ, zero, suc, _-_, _≤_}
-use mathlib.Core.Path.{_≡_, refl, sym, ap, _∙_}
-use mathlib.Core.Logic.{_≢_}
+use mathlib.Core.Path.{_≡_, refl, sym, ap, subst, _∙_}
 use mathlib.Core.Bool.{Bool, true, false}
-use mathlib.Core.List.{List, [], _∷_}
+use mathlib.Core.List.{List, _∷_}
 use native.Mathlib.Omega.{arith}
-use lib.Dec.{eqb, leb}
+use lib.Dec.{leb}
 use lib.ListN.{length}
 use borrow.Author.Tests.{ne-eqb, eqb-true, le-leb, lt-leb, leb-true}
 use Rattle.words.specs.Choice.{pick, both, every}
@@ -15,27 +14,29 @@ use Rattle.words.proofs.Choice.{pick-both, pick-true, pick-false, both-left, bo
 use Rattle.settings.specs.Sizes.{maxMoves, within, Sized}
 use Rattle.settings.specs.declared.Settings.{Settings}
 use Rattle.settings.proofs.Laws.{within-true}
-use Rattle.areas.specs.Memory.{Memory, memory, Areas, areas}
+use Rattle.areas.specs.Memory.{Memory, memory, areas}
 use Rattle.record.specs.declared.Answer.the-variants.{Nothing}
 use Rattle.record.specs.declared.Reply.{Reply}
 use Rattle.record.specs.declared.Head.{Head}
 use Rattle.record.specs.declared.Kind.{Kind}
 use Rattle.record.specs.declared.Move.{Move}
 use Rattle.record.specs.Kinds.{kindNo}
-use Rattle.record.specs.Layout.{Record, record′, load, headAt, movesAt, moveAt, firstMoves, store}
-use Rattle.record.specs.Fits.{fits, fitsBy, callFits, movingFits, movesFit, innerFits}
+use Rattle.record.specs.Layout.{record′, load, headAt, movesAt, moveFrom, moveAt, firstMoves, store}
+use Rattle.record.specs.Fits.{fits, fitsBy, callFits, movingFits, movesFit, innerFits, outerFits}
 use Rattle.record.proofs.Pieces.{length-first}
 use Rattle.rules.specs.Acts.{actBy}
 use Rattle.rules.specs.Asked.{readsBy, takesNode, question9}
-use Rattle.rules.specs.Steps.{Step, step}
+use Rattle.rules.specs.Steps.{Step}
 use Rattle.rules.specs.Operations.{result, reply}
 use Rattle.steps.specs.Tried.{Tried, tried, unlessSix, unlessNine}
 use Rattle.mover.specs.declared.Mover.{Mover}
 use Rattle.mover.specs.declared.Moved.{Moved}
-use Rattle.mover.specs.Cut.{isMoving, moverAt, moverTo}
+use Rattle.mover.specs.Cut.{isMoving}
+use Rattle.mover.specs.Words.{innerAt, moverAt, Keeps, moverTo}
 use Rattle.mover.specs.Moved.{Gives, listAfter, moved}
 use Rattle.mover.proofs.Stored.{loaded-moves, loaded-around, store-is}
 use Rattle.turns.specs.Cut.{triedOf, finished}
+use Rattle.turns.proofs.HeadKept.{kind-keeps}
 use Rattle.turns.proofs.Finish.{finish-six, finish-done, tried-memory}
 
 -- a choice that is true, where the other branch is false
@@ -77,6 +78,14 @@ module _ (w : ℕ) (s : Settings) (l : List ℕ) (i : ℕ) (f : fits w s (load w
       let z : suc n - 1 ≡ n = omega arith in
       (omega arith, rw z (both-left _ _ e))
 
+  second-fits : (n : ℕ) → 2 ≤ n → movesFit s (kindNo (headAt w l i .kind)) (firstMoves w l i n) ≡ true → within (moveAt w l i (n - 2) .count) (s .limit) ≡ true
+  unfolding firstMoves movesFit every outerFits
+  second-fits zero h e = absurd (omega arith)
+  second-fits (suc zero) h e = absurd (omega arith)
+  second-fits (suc (suc n)) h e =
+      let z : suc (suc n) - 2 ≡ n = omega arith in
+      rw z (both-left _ _ (both-right (innerFits s (kindNo (headAt w l i .kind)) (moveAt w l i (suc n) .count)) _ e))
+
   moves-least : 1 ≤ movesAt w l i
   moves-least = first-fits (movesAt w l i) (fits-list .1) .0
 
@@ -88,10 +97,16 @@ module _ (w : ℕ) (s : Settings) (l : List ℕ) (i : ℕ) (f : fits w s (load w
       (λ t e. let q : moveAt w l i (movesAt w l i - 1) .count ≡ 0 = eqb-true _ _ e in omega arith)
       (first-fits (movesAt w l i) (fits-list .1) .1)
 
+  outer-most : Sized s → 2 ≤ movesAt w l i → moveAt w l i (movesAt w l i - 2) .count ≤ 8
+  outer-most z two =
+      let q = within-true _ _ (second-fits (movesAt w l i) two (fits-list .1)) in
+      let a = z .ranges .limit .high in
+      omega arith
+
 -- the bounds of a mover that is loaded
 module _ (s : Settings) (l : List ℕ) (i : ℕ) (h : Head) (v : Mover) where
   pub loaded-count : v ≡ moverAt 3 l i h → h ≡ headAt 3 l i → Sized s → fits 3 s (load 3 l i) ≡ true → 11 ≤ kindNo (h .kind) → v .inner .count ≤ 8
-  unfolding moverAt
+  unfolding moverAt innerAt moveAt moveFrom
   loaded-count a e z f k = rw a (inner-most 3 s l i f (rw e at k) z)
 
   pub loaded-least : v ≡ moverAt 3 l i h → h ≡ headAt 3 l i → fits 3 s (load 3 l i) ≡ true → 11 ≤ kindNo (h .kind) → 1 ≤ v .moves
@@ -117,46 +132,78 @@ both-yes : (a b : Bool) → a ≡ true → both a b ≡ b
 unfolding both
 both-yes a b e = simp e
 
+-- the Moves in a worker's words
+abbrev innermost : ℕ → List ℕ → ℕ → Move
+innermost w l i = moveAt w l i (movesAt w l i - 1)
+
+abbrev around : ℕ → List ℕ → ℕ → List Move
+around w l i = firstMoves w l i (movesAt w l i - 1)
+
 -- what the turn of a loaded mover gives is what the definitions say
 module _ (w : ℕ) (s : Settings) (i : ℕ) (l : List ℕ) (m m′ : Memory) (r : Moved) where
   abbrev Turned : Mover → Type 0
-  Turned v = Gives v s m r m′ (λ os. both (isMoving (v .head .kind)) (readsBy (v .head .kind) w s (v .head) (v .inner ∷ os) m)) (λ os. actBy (v .head .kind) w s (v .head) (v .inner ∷ os) m)
+  Turned v = Gives v s m r m′ (λ a os. both (isMoving (v .head .kind)) (readsBy (v .head .kind) w s (v .head) (a ∷ os) m)) (λ a os. actBy (v .head .kind) w s (v .head) (a ∷ os) m)
 
-  loaded-is : fits w s (load w l i) ≡ true → 11 ≤ kindNo (headAt w l i .kind) → Turned (moverAt w l i (headAt w l i)) → moved (moverAt w l i (headAt w l i)) r (firstMoves w l i (movesAt w l i - 1)) m′ ≡ triedOf w s (load w l i) m
-  unfolding triedOf load moverAt
-  loaded-is f low g =
+  abbrev all : List Move
+  all = firstMoves w l i (movesAt w l i)
+
+  -- the questions of a moving kind, and its act
+  asked-is : fits w s (load w l i) ≡ true → 11 ≤ kindNo (headAt w l i .kind) → unlessSix (both (isMoving (headAt w l i .kind)) (readsBy (headAt w l i .kind) w s (headAt w l i) all m)) s (headAt w l i) all m (tried 0 (actBy (headAt w l i .kind) w s (headAt w l i) all m)) ≡ triedOf w s (load w l i) m
+  unfolding triedOf load
+  asked-is f low =
+      rw (both-yes _ (readsBy (headAt w l i .kind) w s (headAt w l i) all m) (is-moving (headAt w l i .kind) low (kind-most w s l i f low)), nine-moving w s (headAt w l i .kind) (headAt w l i) all m (actBy (headAt w l i .kind) w s (headAt w l i) all m) refl low) refl
+
+  loaded-is : Sized s → fits w s (load w l i) ≡ true → 11 ≤ kindNo (headAt w l i .kind) → Turned (moverAt w l i (headAt w l i)) → moved (moverAt w l i (headAt w l i)) r (innermost w l i) (around w l i) m′ ≡ triedOf w s (load w l i) m
+  unfolding moverAt
+  loaded-is z f low g =
       let o : 1 ≤ movesAt w l i = moves-least w s l i f low in
-      let c : unlessSix (both (isMoving (headAt w l i .kind)) (readsBy (headAt w l i .kind) w s (headAt w l i) (firstMoves w l i (movesAt w l i)) m)) s (headAt w l i) (firstMoves w l i (movesAt w l i)) m (tried 0 (actBy (headAt w l i .kind) w s (headAt w l i) (firstMoves w l i (movesAt w l i)) m)) ≡ triedOf w s (load w l i) m =
-      rw (both-yes _ (readsBy (headAt w l i .kind) w s (headAt w l i) (firstMoves w l i (movesAt w l i)) m) (is-moving (headAt w l i .kind) low (kind-most w s l i f low)), nine-moving w s (headAt w l i .kind) (headAt w l i) (firstMoves w l i (movesAt w l i)) m (actBy (headAt w l i .kind) w s (headAt w l i) (firstMoves w l i (movesAt w l i)) m) refl low) refl
-      in
-      g .gives (firstMoves w l i (movesAt w l i - 1)) (loaded-around w l i (headAt w l i) o)
-      ∙ ap (λ (ms : List Move). unlessSix (both (isMoving (headAt w l i .kind)) (readsBy (headAt w l i .kind) w s (headAt w l i) ms m)) s (headAt w l i) ms m (tried 0 (actBy (headAt w l i .kind) w s (headAt w l i) ms m))) (loaded-moves w l i (headAt w l i) o)
-      ∙ c
+      g .gives (innermost w l i) (around w l i) (loaded-around w l i (headAt w l i) o (inner-most w s l i f low z) (outer-most w s l i f low z))
+      ∙ ap (λ (ms : List Move). unlessSix (both (isMoving (headAt w l i .kind)) (readsBy (headAt w l i .kind) w s (headAt w l i) ms m)) s (headAt w l i) ms m (tried 0 (actBy (headAt w l i .kind) w s (headAt w l i) ms m))) (loaded-moves w l i o)
+      ∙ asked-is f low
+
+  -- what a moving turn leaves of the head
+  pub tried-keeps : fits w s (load w l i) ≡ true → 11 ≤ kindNo (headAt w l i .kind) → Keeps (triedOf w s (load w l i) m .step′ .record′ .head) (headAt w l i)
+  unfolding unlessSix
+  tried-keeps f low =
+      subst (λ (t : Tried). Keeps (t .step′ .record′ .head) (headAt w l i)) (asked-is f low)
+      (pick-both (λ (t : Tried). Keeps (t .step′ .record′ .head) (headAt w l i)) (both (isMoving (headAt w l i .kind)) (readsBy (headAt w l i .kind) w s (headAt w l i) all m))
+      (λ e. kind-keeps (headAt w l i) w s m (headAt w l i .kind) all low (kind-most w s l i f low))
+      (λ e. record { pixel-is = refl; held-is = refl; answer-is = refl; answer-node-is = refl }))
 
 module _ (w : ℕ) (s : Settings) (i : ℕ) (h : Head) (nodes levels l : List ℕ) where
   abbrev pub Given : Mover → Moved → Memory → Type 0
   Given v r m′ =
       Gives v s (memory nodes levels) r m′
-      (λ os. both (isMoving (v .head .kind)) (readsBy (v .head .kind) w s (v .head) (v .inner ∷ os) (memory nodes levels)))
-      (λ os. actBy (v .head .kind) w s (v .head) (v .inner ∷ os) (memory nodes levels))
+      (λ a os. both (isMoving (v .head .kind)) (readsBy (v .head .kind) w s (v .head) (a ∷ os) (memory nodes levels)))
+      (λ a os. actBy (v .head .kind) w s (v .head) (a ∷ os) (memory nodes levels))
 
   given-is : (r : Moved) (m′ : Memory) (v : Mover) → Given v r m′ → v ≡ moverAt w l i h → h ≡ headAt w l i → Given (moverAt w l i (headAt w l i)) r m′
   given-is r m′ v g a e = rw (← e, ← a) g
 
   pub move-refused :
-      (v : Mover) (r : Moved) {x : Reply} {n g : List ℕ} → x ≡ reply 6 Nothing 0 s → Given v r (memory n g) → v ≡ moverAt w l i h → r .number ≡ 6 → h ≡ headAt w l i → fits w s (load w l i) ≡ true → 11 ≤ kindNo (h .kind)
+      (v : Mover) (r : Moved) {x : Reply} {n g : List ℕ} → x ≡ reply 6 Nothing 0 s → Given v r (memory n g) → v ≡ moverAt w l i h → r .number ≡ 6 → h ≡ headAt w l i → Sized s → fits w s (load w l i) ≡ true → 11 ≤ kindNo (h .kind)
       → result x (areas n g l) ≡ finished w (triedOf w s (load w l i) (memory nodes levels)) i s (areas nodes levels l)
-  move-refused v r {x} {n} {g} a gives b z e f k =
+  move-refused v r {x} {n} {g} a gives b z e y f k =
       let p : 11 ≤ kindNo (headAt w l i .kind) = rw e at k in
-      let q = loaded-is w s i l (memory nodes levels) (memory n g) r f p (given-is r (memory n g) v gives b e) in
-      finish-six w i s nodes levels l (triedOf w s (load w l i) (memory nodes levels)) (moved (moverAt w l i (headAt w l i)) r (firstMoves w l i (movesAt w l i - 1)) (memory n g) .step′) a q z (tried-memory w s (load w l i) (memory nodes levels))
+      let q = loaded-is w s i l (memory nodes levels) (memory n g) r y f p (given-is r (memory n g) v gives b e) in
+      finish-six w i s nodes levels l (triedOf w s (load w l i) (memory nodes levels)) (moved (moverAt w l i (headAt w l i)) r (innermost w l i) (around w l i) (memory n g) .step′) a q z (tried-memory w s (load w l i) (memory nodes levels))
+
+  most-of : fits w s (load w l i) ≡ true → 11 ≤ kindNo (headAt w l i .kind) → Sized s → moverAt w l i (headAt w l i) .inner .count ≤ 8
+  unfolding moverAt innerAt moveAt moveFrom
+  most-of f p y = inner-most w s l i f p y
+
+  -- what is stored is within the record, and as if all of it were stored
+  kept-is : (r : Moved) {m′ : Memory} → Given (moverAt w l i (headAt w l i)) r m′ → moved (moverAt w l i (headAt w l i)) r (innermost w l i) (around w l i) m′ ≡ triedOf w s (load w l i) (memory nodes levels) → Sized s → fits w s (load w l i) ≡ true → 11 ≤ kindNo (headAt w l i .kind)
+      → moverTo w (r .mover) i l ≡ store w (record′ (r .mover .head) (listAfter (moverAt w l i (headAt w l i)) (r .mover) (innermost w l i) (around w l i))) i l
+  kept-is r {m′} given q y f p =
+      let k : Keeps (r .mover .head) (headAt w l i) = subst (λ (t : Tried). Keeps (t .step′ .record′ .head) (headAt w l i)) (sym q) (tried-keeps w s i l (memory nodes levels) m′ r f p) in
+      store-is w l i (r .mover) k (given .most (most-of f p y)) (moves-least w s l i f p) (given .counts)
 
   pub move-done :
-      (v : Mover) (r : Moved) {x : Reply} {n g l′ : List ℕ} → x ≡ reply (r .number) (r .answer) 0 (r .settings) → l′ ≡ moverTo w (r .mover) i l → Given v r (memory n g) → v ≡ moverAt w l i h → (r .number ≡ 6 → ⊥) → h ≡ headAt w l i → fits w s (load w l i) ≡ true → 11 ≤ kindNo (h .kind)
+      (v : Mover) (r : Moved) {x : Reply} {n g l′ : List ℕ} → x ≡ reply (r .number) (r .answer) 0 (r .settings) → l′ ≡ moverTo w (r .mover) i l → Given v r (memory n g) → v ≡ moverAt w l i h → (r .number ≡ 6 → ⊥) → h ≡ headAt w l i → Sized s → fits w s (load w l i) ≡ true → 11 ≤ kindNo (h .kind)
       → result x (areas n g l′) ≡ finished w (triedOf w s (load w l i) (memory nodes levels)) i s (areas nodes levels l)
-  move-done v r {x} {n} {g} {l′} a c gives b z e f k =
+  move-done v r {x} {n} {g} {l′} a c gives b z e y f k =
       let p : 11 ≤ kindNo (headAt w l i .kind) = rw e at k in
       let given : Given (moverAt w l i (headAt w l i)) r (memory n g) = given-is r (memory n g) v gives b e in
-      let q = loaded-is w s i l (memory nodes levels) (memory n g) r f p given in
-      finish-done w i s nodes levels l (triedOf w s (load w l i) (memory nodes levels)) (moved (moverAt w l i (headAt w l i)) r (firstMoves w l i (movesAt w l i - 1)) (memory n g) .step′) a
-      (c ∙ store-is w l i (r .mover) (headAt w l i) (moves-least w s l i f p) (given .counts)) q z
+      let q = loaded-is w s i l (memory nodes levels) (memory n g) r y f p given in
+      finish-done w i s nodes levels l (triedOf w s (load w l i) (memory nodes levels)) (moved (moverAt w l i (headAt w l i)) r (innermost w l i) (around w l i) (memory n g) .step′) a (c ∙ kept-is r given q y f p) q z

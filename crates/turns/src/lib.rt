@@ -183,10 +183,18 @@ pub fn open_here(
     if inside(workers, i) {
         let h = Head::load(workers, i);
         let k = h.kind;
+        // read word by word, as the caller has just written them: a block of words read at once would wait for those writes
+        let n = Settings {
+            workers: s.workers,
+            limit: s.limit,
+            nodes: s.nodes,
+            nodes_taken: s.nodes_taken,
+            levels_taken: s.levels_taken,
+        };
         if kind_no(k) <= 10 {
-            done_of(search_here(s, i, h, nodes, levels, workers))
+            done_of(search_here(n, i, h, nodes, levels, workers))
         } else {
-            done_of(move_here(s, i, h, nodes, levels, workers))
+            done_of(move_here(n, i, h, nodes, levels, workers))
         }
     } else {
         done_of(refusal(6, s))

@@ -7,7 +7,7 @@ use native.Mathlib.Nat.{add-zero, add-suc, suc-add}
 use native.Mathlib.Numerals.{add-one}
 use native.Mathlib.Omega.{arith}
 use lib.ListN.{length, getD, set, take, drop, replicate, length-set, length-replicate}
-use lib.Seq.{sets, take-suc, drop-cons, set-at, append-snoc, drop-length, take-all, length-sets, length-take-le, getD-set-other, getD-set-same, set-getD}
+use lib.Seq.{sets, take-suc, drop-cons, set-at, append-snoc, drop-length, take-all, length-sets, length-take-le, getD-set-other, getD-set-same, set-getD, set-comm, set-set}
 use Rattle.words.specs.Blocks.{cells, fill}
 
 pub sets-snoc : (vs l : List ℕ) (i v : ℕ) → sets l i (vs ++ (v ∷ [])) ≡ set (sets l i vs) (i + length vs) v
@@ -139,3 +139,20 @@ unfolding cells
 sets-cells l i zero = refl
 sets-cells l i (suc n) =
     ap (λ (m : List ℕ). sets m (suc i) (cells l (suc i) n)) (set-getD l i 0) ∙ sets-cells l (suc i) n
+
+-- a word that stands there already is not written anew
+pub sets-skip : (l : List ℕ) (i v : ℕ) (vs : List ℕ) → getD l i 0 ≡ v → sets l i (v ∷ vs) ≡ sets l (suc i) vs
+sets-skip l i v vs e = ap (λ (x : ℕ). sets (set l i x) (suc i) vs) (sym e) ∙ ap (λ (m : List ℕ). sets m (suc i) vs) (set-getD l i 0)
+
+-- a word before a block may be written after it
+pub set-sets : (vs l : List ℕ) (i j v : ℕ) → j < i → sets (set l j v) i vs ≡ set (sets l i vs) j v
+set-sets [] l i j v h = refl
+set-sets (a ∷ vs) l i j v h =
+    ap (λ (m : List ℕ). sets m (suc i) vs) (set-comm l j i v a (λ e. omega arith)) ∙ set-sets vs (set l i a) (suc i) j v (omega arith)
+
+-- a block with one word changed is the block, then that word
+pub sets-set : (vs l : List ℕ) (i k v : ℕ) → k < length vs → sets l i (set vs k v) ≡ set (sets l i vs) (i + k) v
+sets-set [] l i k v h = absurd (omega arith)
+sets-set (a ∷ vs) l i zero v h =
+    rw add-zero (ap (λ (m : List ℕ). sets m (suc i) vs) (sym (set-set l i a v)) ∙ set-sets vs (set l i a) (suc i) i v (omega arith))
+sets-set (a ∷ vs) l i (suc k) v h = rw (add-suc, ← suc-add) (sets-set vs (set l i a) (suc i) k v (omega arith))

@@ -26,10 +26,10 @@ module _ (s : Settings) (h : Head) where
 
 -- a test, and a word that is compared and followed
 pub ask-followed :
-    (w : ℕ) (s : Settings) (h : Head) (nodes levels : List ℕ) {r a b c d e : Bool} {v u : ℕ}
-    → r ≡ both a b → b ≡ both c d → d ≡ goesBack w s h v levels → c ≡ comparesRef s v nodes → a ≡ e → v ≡ u
-    → r ≡ both e (both (comparesRef s u nodes) (goesBack w s h u levels))
-ask-followed w s h nodes levels p q d c a v = simp (p, q, d, c, a, v)
+    (w taken level : ℕ) (s : Settings) (nodes levels : List ℕ) {r a b c d e : Bool} {v u : ℕ}
+    → r ≡ both a b → b ≡ both c d → d ≡ goesBack w taken level v levels → c ≡ comparesRef s v nodes → a ≡ e → v ≡ u
+    → r ≡ both e (both (comparesRef s u nodes) (goesBack w taken level u levels))
+ask-followed w taken level s nodes levels p q d c a v = simp (p, q, d, c, a, v)
 
 -- what a yes says of numbers: Take, TakeTail
 module _ (s : Settings) (h : Head) {r : Bool} where

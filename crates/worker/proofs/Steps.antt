@@ -14,11 +14,11 @@ use Rattle.record.specs.declared.Kind.{Kind}
 use Rattle.record.specs.declared.Kind.the-variants.{Look, Tail}
 use Rattle.record.specs.declared.Answer.the-variants.{New, Found, Open}
 use Rattle.record.specs.declared.Head.{Head}
-use Rattle.rules.specs.Heads.{to, toLevel, toNode, holdingNode, ended}
+use Rattle.rules.specs.Heads.{to, toLevel, toNode, holdingNode, holdingLevel, ended}
 use Rattle.rules.specs.Steps.{expected, more, tookNode, withNode, takeNode, takeLevel, closed, childOf}
 use Rattle.rules.specs.Searching.{placed, metNode, met, readWord, followWord}
 use Rattle.worker.specs.declared.Turned.{Turned}
-use Rattle.steps.specs.Cut.{levelCut, takeLevelCut, CloseCut, closeCut, closedCut, begun}
+use Rattle.steps.specs.Cut.{levelCut, levelCounted, takeLevelCut, CloseCut, closeCut, closedCut, begun}
 use Rattle.steps.specs.Tried.{Tried, tried}
 use Rattle.steps.proofs.Ties.{take-level-cut, closed-cut, closed-level}
 use Rattle.worker.specs.Tried.{turned, turnedOf}
@@ -104,11 +104,12 @@ follow-there w s h word nodes levels a b d e = simp (a, b, d, e)
 -- a level is taken
 module _ (w : ℕ) (s : Settings) (h : Head) (nodes levels : List ℕ) where
   pub level-there :
-      (k : Kind) {t : Turned} {s′ : Settings} {y : Head} {l : List ℕ}
-      → t ≡ turnedOf 0 Open s′ y 0 → levelCut s′ y l ≡ takeLevelCut w k s h levels
+      (k : Kind) {t : Turned} {s′ : Settings} {y : Head} {g : ℕ} {l : List ℕ}
+      → t ≡ turnedOf 0 Open s′ y 0 → y ≡ holdingLevel k (g + 1) h → s′ ≡ levelCounted s (h .«held_level»)
+      → levelCut g l ≡ takeLevelCut w (s .«levels_taken») (h .«held_level») (h .level) levels
       → turned t (memory nodes l) ≡ tried 0 (takeLevel w k s h [] (memory nodes levels))
   unfolding begun pick
-  level-there k a e = simp (a, take-level-cut w s h [] (memory nodes levels) k, ← e)
+  level-there k a b c e = simp (a, b, c, take-level-cut w s h [] (memory nodes levels) k, ← e)
 
   -- R's next is exchanged
   pub close-there :

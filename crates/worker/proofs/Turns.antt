@@ -1,14 +1,17 @@
 -- What every kind of turn has alike, in the code: question 6, question 9, and the cell that the turn is at, over any width, cell and kinds.
 -- Relies on rules for what a step does.
-use mathlib.Core.Path.{_≡_}
-use mathlib.Core.Bool.{Bool, true, false}
+use mathlib.Core.Path.{_≡_, refl}
+use mathlib.Core.Bool.{Bool, true, false, not}
 use mathlib.Core.List.{[]}
 use Prim.Native.Nat.{ℕ}
-use Rattle.words.specs.Choice.{pick}
+use lib.Dec.{leb}
+use Rattle.words.specs.Choice.{pick, both}
 use Rattle.settings.specs.declared.Settings.{Settings}
 use Rattle.areas.specs.declared.Cell.{Cell}
 use Rattle.areas.specs.Memory.{Memory, cellAt}
 use Rattle.record.specs.declared.Kind.{Kind}
+use Rattle.record.specs.declared.Kind.the-variants.{Idle, Look, Take, Put, Read, Tail, TakeTail, Append, Level, Close, Follow, ChainHead, ChainNext, SetNext, SetLook, SetPut, SetRead, SetTail, SetAppend, SetLevel, SetClose, SetFollow, MoveEnd, Unknown}
+use Rattle.record.specs.Kinds.{kindNo}
 use Rattle.record.specs.declared.Answer.the-variants.{Nothing, Full, Open}
 use Rattle.record.specs.declared.Head.{Head}
 use Rattle.rules.specs.Heads.{ended}
@@ -64,11 +67,41 @@ module _ (w : ℕ) (s : Settings) (h : Head) (m : Memory) (word : ℕ) {t : Trie
   pub followed-at : t ≡ tried 0 (followWord w s h v m) → v ≡ word → t ≡ tried 0 (followWord w s h word m)
   followed-at a b = simp (a, b)
 
--- a turn by its kind; a kind that is none of a search is refused
-pub refused : (s : Settings) (h : Head) (m : Memory) {t : Turned} → t ≡ turnedOf 6 Nothing s h 0 → turned t m ≡ tried 6 (step Nothing s h [] m)
-unfolding begun pick
-refused s h m a = simp a
+-- a kind that is none of a search is refused
+not-search : (k : Kind) (w : ℕ) (s : Settings) (h : Head) (m : Memory) → not (both (leb 1 (kindNo k)) (leb (kindNo k) 10)) ≡ true → searchTried k w s h m ≡ tried 6 (step Nothing s h [] m)
+unfolding searchTried kindNo both
+not-search Idle w s h m e = refl
+not-search Look w s h m e = let z : false ≡ true = e in cc
+not-search Take w s h m e = let z : false ≡ true = e in cc
+not-search Put w s h m e = let z : false ≡ true = e in cc
+not-search Read w s h m e = let z : false ≡ true = e in cc
+not-search Tail w s h m e = let z : false ≡ true = e in cc
+not-search TakeTail w s h m e = let z : false ≡ true = e in cc
+not-search Append w s h m e = let z : false ≡ true = e in cc
+not-search Level w s h m e = let z : false ≡ true = e in cc
+not-search Close w s h m e = let z : false ≡ true = e in cc
+not-search Follow w s h m e = let z : false ≡ true = e in cc
+not-search ChainHead w s h m e = refl
+not-search ChainNext w s h m e = refl
+not-search SetNext w s h m e = refl
+not-search SetLook w s h m e = refl
+not-search SetPut w s h m e = refl
+not-search SetRead w s h m e = refl
+not-search SetTail w s h m e = refl
+not-search SetAppend w s h m e = refl
+not-search SetLevel w s h m e = refl
+not-search SetClose w s h m e = refl
+not-search SetFollow w s h m e = refl
+not-search MoveEnd w s h m e = refl
+not-search Unknown w s h m e = refl
 
+pub turn-other :
+    (k : Kind) (w : ℕ) (s : Settings) (h : Head) (m : Memory) {t : Turned}
+    → t ≡ turnedOf 6 Nothing s h 0 → not (both (leb 1 (kindNo k)) (leb (kindNo k) 10)) ≡ true → turned t m ≡ searchTried k w s h m
+unfolding begun pick
+turn-other k w s h m a e = simp (a, not-search k w s h m e)
+
+-- a turn by its kind
 pub turn-kind :
     (k : Kind) (w : ℕ) (s : Settings) (h : Head) (m : Memory) {t : Tried} → t ≡ searchTried k w s h m → h .kind ≡ k → t ≡ searchTried (h .kind) w s h m
 turn-kind k w s h m a e = simp (e, a)

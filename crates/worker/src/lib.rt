@@ -33,8 +33,10 @@ use steps::child_of;
 use steps::close_next;
 use steps::closes;
 use steps::compares_ref;
+use steps::counted;
 use steps::ended;
 use steps::goes_back;
+use steps::holding_level;
 use steps::holding_node;
 use steps::more;
 use steps::node_in_hand;
@@ -201,8 +203,11 @@ fn new_level(s: Settings, h: Head, nodes: &[u32], levels: &mut [u32]) -> Turned
     requires { ⌜ depthAt 3 (now levels) (h .level) ≤ 6 ⌝ }
     ensures { λ r. ⌜ turned r (memory (now (nodes .entry)) (now (levels .exit))) ≡ tried 0 (takeLevel 3 Kind.Close s h [] (memory (now (nodes .entry)) (now (levels .entry)))) ⌝ }
 {
-    let t = take_level(Kind::Close, s, h, levels);
-    going(t.settings, t.head)
+    let g = take_level(s.levels_taken, h.held_level, h.level, levels);
+    going(
+        counted(s, h.held_level),
+        holding_level(Kind::Close, g + 1, h),
+    )
 }
 
 // Close: a Move begins where the level in hand is R's next now.
@@ -254,7 +259,10 @@ fn follows(s: Settings, h: Head, nodes: &[u32], levels: &[u32]) -> bool
     let word = next_at(nodes, h.node);
     and(
         stands_at(s, h),
-        and(compares_ref(s, word, nodes), goes_back(s, h, word, levels)),
+        and(
+            compares_ref(s, word, nodes),
+            goes_back(s.levels_taken, h.level, word, levels),
+        ),
     )
 }
 
@@ -406,7 +414,6 @@ impl Worker {
         let h = self.head;
         let k = h.kind;
         match k {
-            Kind::Idle => refused_six(s, h),
             Kind::Look => self.look(s, nodes, levels),
             Kind::Take => self.take(s, nodes, levels),
             Kind::Put => self.put(s, nodes, levels),
@@ -417,19 +424,7 @@ impl Worker {
             Kind::Level => self.level(s, nodes, levels),
             Kind::Close => self.close(s, nodes, levels),
             Kind::Follow => self.follow(s, nodes, levels),
-            Kind::ChainHead => refused_six(s, h),
-            Kind::ChainNext => refused_six(s, h),
-            Kind::SetNext => refused_six(s, h),
-            Kind::SetLook => refused_six(s, h),
-            Kind::SetPut => refused_six(s, h),
-            Kind::SetRead => refused_six(s, h),
-            Kind::SetTail => refused_six(s, h),
-            Kind::SetAppend => refused_six(s, h),
-            Kind::SetLevel => refused_six(s, h),
-            Kind::SetClose => refused_six(s, h),
-            Kind::SetFollow => refused_six(s, h),
-            Kind::MoveEnd => refused_six(s, h),
-            Kind::Unknown => refused_six(s, h),
+            _ => refused_six(s, h),
         }
     }
 }

@@ -1,5 +1,5 @@
 -- `mover::chain_nexts` meets its contract.
--- Relies on Asked.
+-- Relies on steps.
 use Rattle.steps.proofs.Asked.{ask-both}
 use borrow.Author.Needs.{needs}
 use Rattle.mover.proofs.chain_nexts.Statement.{statement}
@@ -19,9 +19,4 @@ returns c = search (needs, ask-both)
 
 pub chain-nexts-spec : {M : Type 1} → statement M
 chain-nexts-spec =
-    tie.close
-    (tie.spec
-    node-taken-requires
-    word-asked-requires
-    and-requires
-    returns)
+    tie.close (tie.spec node-taken-requires word-asked-requires and-requires returns)

@@ -1,6 +1,6 @@
 -- `mover::follow_head` meets its contract.
--- Relies on Turns.
-use Rattle.mover.proofs.Turns.{follow-way}
+-- Relies on Ways.
+use Rattle.mover.proofs.Ways.{follow-way}
 use Rattle.mover.specs.Cut.{followHead}
 use borrow.Author.Needs.{needs}
 use Rattle.mover.proofs.follow_head.Statement.{statement}

@@ -1,6 +1,6 @@
 -- `mover::forget` meets its contract.
--- Relies on Turns.
-use Rattle.mover.proofs.Turns.{forget-way}
+-- Relies on Ways.
+use Rattle.mover.proofs.Ways.{forget-way}
 use Rattle.rules.specs.Heads.{forget}
 use borrow.Author.Needs.{needs}
 use Rattle.mover.proofs.forget.Statement.{statement}

@@ -1,6 +1,6 @@
 -- `mover::last_head` meets its contract.
--- Relies on Turns.
-use Rattle.mover.proofs.Turns.{last-end, last-set}
+-- Relies on Ways.
+use Rattle.mover.proofs.Ways.{last-end, last-set}
 use Rattle.words.proofs.Auto.{tests}
 use borrow.Author.Needs.{needs}
 use Rattle.mover.proofs.last_head.Statement.{statement}

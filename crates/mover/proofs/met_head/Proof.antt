@@ -1,6 +1,6 @@
 -- `mover::met_head` meets its contract.
--- Relies on Turns.
-use Rattle.mover.proofs.Turns.{met-level, met-node}
+-- Relies on Ways.
+use Rattle.mover.proofs.Ways.{met-level, met-node}
 use Rattle.words.proofs.Choice.{via}
 use borrow.Author.Needs.{needs}
 use Rattle.mover.proofs.met_head.Statement.{statement}

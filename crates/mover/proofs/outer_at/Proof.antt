@@ -6,14 +6,14 @@ use borrow.Author.Needs.{needs}
 use Rattle.mover.proofs.outer_at.Statement.{statement}
 use Rattle.mover.proofs.outer_at.Tie as tie
 
-sub-load : tie.Need-sub-load
-sub-load c = search needs
+sub-move-place : tie.Need-sub-move-place
+sub-move-place c = search needs
 
-load-requires : tie.Need-load-requires
-load-requires c κs = search needs
+move-place-requires : tie.Need-move-place-requires
+move-place-requires c κs = search needs
 
-last-node-requires : tie.Need-last-node-requires
-last-node-requires c κs = search needs
+last-at-requires : tie.Need-last-at-requires
+last-at-requires c κs = search needs
 
 returns : tie.Need-returns
 returns c = search (tests, outer-none)
@@ -23,10 +23,4 @@ returns-2 c = search (tests, outer-last)
 
 pub outer-at-spec : {M : Type 1} → statement M
 outer-at-spec =
-    tie.close
-    (tie.spec
-    sub-load
-    load-requires
-    last-node-requires
-    returns
-    returns-2)
+    tie.close (tie.spec sub-move-place move-place-requires last-at-requires returns returns-2)

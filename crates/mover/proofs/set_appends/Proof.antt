@@ -1,7 +1,6 @@
 -- `mover::set_appends` meets its contract.
--- Relies on Asked.
-use Rattle.mover.proofs.Asked.{taken-last}
-use Rattle.rules.specs.Asked.{setAppends}
+-- Relies on steps.
+use Rattle.mover.specs.Cut.{setAppendsCut}
 use Rattle.steps.proofs.Asked.{ask-both}
 use borrow.Author.Needs.{needs}
 use Rattle.mover.proofs.set_appends.Statement.{statement}
@@ -10,9 +9,6 @@ use Rattle.mover.proofs.set_appends.Tie as tie
 stands-at-requires : tie.Need-stands-at-requires
 stands-at-requires c κs = search needs
 
-last-node-requires : tie.Need-last-node-requires
-last-node-requires c κs = search needs
-
 node-taken-requires : tie.Need-node-taken-requires
 node-taken-requires c κs = search needs
 
@@ -20,15 +16,8 @@ and-requires : tie.Need-and-requires
 and-requires c κs = search needs
 
 returns : tie.Need-returns
-unfolding setAppends
-returns c = search (needs, ask-both, taken-last)
+unfolding setAppendsCut
+returns c = search (needs, ask-both)
 
 pub set-appends-spec : {M : Type 1} → statement M
-set-appends-spec =
-    tie.close
-    (tie.spec
-    stands-at-requires
-    last-node-requires
-    node-taken-requires
-    and-requires
-    returns)
+set-appends-spec = tie.close (tie.spec stands-at-requires node-taken-requires and-requires returns)

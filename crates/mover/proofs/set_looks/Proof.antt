@@ -1,7 +1,6 @@
 -- `mover::set_looks` meets its contract.
 -- Relies on Asked.
-use Rattle.rules.specs.Asked.{setLooks}
-use Rattle.steps.proofs.Asked.{ask-cell}
+use Rattle.mover.proofs.Asked.{looks-way}
 use borrow.Author.Needs.{needs}
 use Rattle.mover.proofs.set_looks.Statement.{statement}
 use Rattle.mover.proofs.set_looks.Tie as tie
@@ -16,14 +15,7 @@ and-requires : tie.Need-and-requires
 and-requires c κs = search needs
 
 returns : tie.Need-returns
-unfolding setLooks
-returns c = search (needs, ask-cell)
+returns c = search (needs, looks-way)
 
 pub set-looks-spec : {M : Type 1} → statement M
-set-looks-spec =
-    tie.close
-    (tie.spec
-    set-puts-requires
-    reads-ref-requires
-    and-requires
-    returns)
+set-looks-spec = tie.close (tie.spec set-puts-requires reads-ref-requires and-requires returns)

@@ -1,14 +1,10 @@
 -- `mover::set_nexts` meets its contract.
--- Relies on Asked.
-use Rattle.mover.proofs.Asked.{taken-last}
-use Rattle.rules.specs.Asked.{setNexts}
+-- Relies on steps.
+use Rattle.mover.specs.Cut.{setNextsCut}
 use Rattle.steps.proofs.Asked.{ask-both}
 use borrow.Author.Needs.{needs}
 use Rattle.mover.proofs.set_nexts.Statement.{statement}
 use Rattle.mover.proofs.set_nexts.Tie as tie
-
-last-node-requires : tie.Need-last-node-requires
-last-node-requires c κs = search needs
 
 node-taken-requires : tie.Need-node-taken-requires
 node-taken-requires c κs = search needs
@@ -20,15 +16,8 @@ and-requires : tie.Need-and-requires
 and-requires c κs = search needs
 
 returns : tie.Need-returns
-unfolding setNexts
-returns c = search (needs, ask-both, taken-last)
+unfolding setNextsCut
+returns c = search (needs, ask-both)
 
 pub set-nexts-spec : {M : Type 1} → statement M
-set-nexts-spec =
-    tie.close
-    (tie.spec
-    last-node-requires
-    node-taken-requires
-    level-taken-requires
-    and-requires
-    returns)
+set-nexts-spec = tie.close (tie.spec node-taken-requires level-taken-requires and-requires returns)

@@ -1,7 +1,6 @@
 -- `mover::set_puts` meets its contract.
--- Relies on Asked.
-use Rattle.mover.proofs.Asked.{fits-last}
-use Rattle.rules.specs.Asked.{setPuts}
+-- Relies on steps.
+use Rattle.mover.specs.Cut.{setPutsCut}
 use Rattle.steps.proofs.Asked.{ask-both}
 use borrow.Author.Needs.{needs}
 use Rattle.mover.proofs.set_puts.Statement.{statement}
@@ -10,9 +9,6 @@ use Rattle.mover.proofs.set_puts.Tie as tie
 picks-in-requires : tie.Need-picks-in-requires
 picks-in-requires c κs = search needs
 
-last-node-requires : tie.Need-last-node-requires
-last-node-requires c κs = search needs
-
 pixel-fits-requires : tie.Need-pixel-fits-requires
 pixel-fits-requires c κs = search needs
 
@@ -20,15 +16,8 @@ and-requires : tie.Need-and-requires
 and-requires c κs = search needs
 
 returns : tie.Need-returns
-unfolding setPuts
-returns c = search (needs, ask-both, fits-last)
+unfolding setPutsCut
+returns c = search (needs, ask-both)
 
 pub set-puts-spec : {M : Type 1} → statement M
-set-puts-spec =
-    tie.close
-    (tie.spec
-    picks-in-requires
-    last-node-requires
-    pixel-fits-requires
-    and-requires
-    returns)
+set-puts-spec = tie.close (tie.spec picks-in-requires pixel-fits-requires and-requires returns)

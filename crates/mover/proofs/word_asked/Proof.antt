@@ -1,5 +1,5 @@
 -- `mover::word_asked` meets its contract.
--- Relies on Asked.
+-- Relies on steps.
 use Rattle.mover.specs.Cut.{wordAsked}
 use Rattle.steps.proofs.Asked.{ask-both}
 use borrow.Author.Needs.{needs}
@@ -9,8 +9,8 @@ use Rattle.mover.proofs.word_asked.Tie as tie
 ref-taken-requires : tie.Need-ref-taken-requires
 ref-taken-requires c κs = search needs
 
-remembers-requires : tie.Need-remembers-requires
-remembers-requires c κs = search needs
+room-requires : tie.Need-room-requires
+room-requires c κs = search needs
 
 and-requires : tie.Need-and-requires
 and-requires c κs = search needs
@@ -20,10 +20,4 @@ unfolding wordAsked
 returns c = search (needs, ask-both)
 
 pub word-asked-spec : {M : Type 1} → statement M
-word-asked-spec =
-    tie.close
-    (tie.spec
-    ref-taken-requires
-    remembers-requires
-    and-requires
-    returns)
+word-asked-spec = tie.close (tie.spec ref-taken-requires room-requires and-requires returns)

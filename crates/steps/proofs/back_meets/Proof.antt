@@ -12,10 +12,10 @@ use Rattle.steps.proofs.back_meets.Statement.{statement}
 use Rattle.steps.proofs.back_meets.Tie as tie
 
 abbrev Inv-loop : tie.InvT-loop
-Inv-loop s levels g t at₀ n₀ at n = backMeets 3 s levels n g at ≡ backMeets 3 s levels (depths 3 - 1) g t
+Inv-loop taken levels g t at₀ n₀ at n = backMeets 3 taken levels n g at ≡ backMeets 3 taken levels (depths 3 - 1) g t
 
 abbrev μ-loop : tie.MeasureT-loop
-μ-loop s levels g t at₀ n₀ at n = n
+μ-loop taken levels g t at₀ n₀ at n = n
 
 sub-n : tie.Need-sub-n Inv-loop μ-loop
 sub-n c = search needs
@@ -30,8 +30,8 @@ previous-at-requires c κs = search needs
 returns : tie.Need-returns Inv-loop μ-loop
 returns c = search (tests, meets-here)
 
-level-taken-requires : tie.Need-level-taken-requires Inv-loop μ-loop
-level-taken-requires c κs = search needs
+lt-requires : tie.Need-lt-requires Inv-loop μ-loop
+lt-requires c κs = search needs
 
 sub-n-2 : tie.Need-sub-n-2 Inv-loop μ-loop
 sub-n-2 c = search needs
@@ -58,7 +58,7 @@ back-meets-spec =
     loop-holds
     previous-at-requires
     returns
-    level-taken-requires
+    lt-requires
     sub-n-2
     loop-less
     loop-again

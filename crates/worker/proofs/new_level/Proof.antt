@@ -1,5 +1,6 @@
 -- `worker::new_level` meets its contract.
 -- Relies on Steps.
+use Rattle.steps.proofs.Steps.{taken-fits}
 use Rattle.worker.proofs.Steps.{level-there}
 use borrow.Author.Needs.{needs}
 use Rattle.worker.proofs.new_level.Statement.{statement}
@@ -7,6 +8,15 @@ use Rattle.worker.proofs.new_level.Tie as tie
 
 take-level-requires : tie.Need-take-level-requires
 take-level-requires c κs = search needs
+
+counted-requires : tie.Need-counted-requires
+counted-requires c κs = search needs
+
+add-holding-level : tie.Need-add-holding-level
+add-holding-level c = search (needs, taken-fits)
+
+holding-level-requires : tie.Need-holding-level-requires
+holding-level-requires c κs = search needs
 
 going-requires : tie.Need-going-requires
 going-requires c κs = search needs
@@ -22,6 +32,9 @@ new-level-spec =
     tie.close
     (tie.spec
     take-level-requires
+    counted-requires
+    add-holding-level
+    holding-level-requires
     going-requires
     same-length
     returns)

@@ -1,6 +1,6 @@
 -- `mover::Mover::begun` meets its contract.
--- Relies on Turns.
-use Rattle.mover.proofs.Turns.{begun-none, begun-one}
+-- Relies on Ways.
+use Rattle.mover.proofs.Ways.{begun-none, begun-one}
 use Rattle.words.proofs.Auto.{tests}
 use borrow.Author.Needs.{needs}
 use Rattle.mover.proofs.Mover.begun.Statement.{statement}
@@ -12,14 +12,8 @@ stay-requires c κs = search needs
 add-t10 : tie.Need-add-t10
 add-t10 c = search needs
 
-sub-fresh : tie.Need-sub-fresh
-sub-fresh c = search needs
-
-fresh-requires : tie.Need-fresh-requires
-fresh-requires c κs = search needs
-
-last-node-requires : tie.Need-last-node-requires
-last-node-requires c κs = search needs
+sub-t11 : tie.Need-sub-t11
+sub-t11 c = search needs
 
 returns : tie.Need-returns
 returns c = search (tests, begun-none)
@@ -28,13 +22,4 @@ returns-2 : tie.Need-returns-2
 returns-2 c = search (tests, begun-one)
 
 pub begun-spec : {M : Type 1} → statement M
-begun-spec =
-    tie.close
-    (tie.spec
-    stay-requires
-    add-t10
-    sub-fresh
-    fresh-requires
-    last-node-requires
-    returns
-    returns-2)
+begun-spec = tie.close (tie.spec stay-requires add-t10 sub-t11 returns returns-2)

@@ -1,7 +1,8 @@
 -- `mover::Mover::chain_head` meets its contract.
--- Relies on Asked, on Turns.
+-- Relies on Asked, on Bounds, on Turns.
 use Rattle.mover.proofs.Asked.{heads-asked}
-use Rattle.mover.proofs.Turns.{counts-refused, counts-stay, home-word, six-no, six-yes, word-is}
+use Rattle.mover.proofs.Bounds.{counts-refused, counts-stay, most-refused, most-word}
+use Rattle.mover.proofs.Turns.{home-word, six-no, six-yes, word-is}
 use Rattle.rules.specs.Moving.{chainHead}
 use borrow.Author.Needs.{needs}
 use Rattle.mover.proofs.Mover.chain_head.Statement.{statement}
@@ -22,24 +23,12 @@ chain-word-requires c κs = search needs
 refused-requires : tie.Need-refused-requires
 refused-requires c κs = search needs
 
-same-length : tie.Need-same-length
-same-length c = search needs
-
-same-length-2 : tie.Need-same-length-2
-same-length-2 c = search needs
-
 returns : tie.Need-returns
 unfolding chainHead
-returns c = record { gives = λ os a. search (needs, six-yes, heads-asked, word-is, home-word); counts = search (needs, counts-stay) }
-
-same-length-3 : tie.Need-same-length-3
-same-length-3 c = search needs
-
-same-length-4 : tie.Need-same-length-4
-same-length-4 c = search needs
+returns c = record { gives = λ a os o. search (needs, six-yes, heads-asked, word-is, home-word); counts = search (needs, counts-stay); most = λ h. search (needs, most-word) }
 
 returns-2 : tie.Need-returns-2
-returns-2 c = record { gives = λ os a. search (needs, six-no, heads-asked); counts = search (needs, counts-refused) }
+returns-2 c = record { gives = λ a os o. search (needs, six-no, heads-asked); counts = search (needs, counts-refused); most = λ h. search (needs, most-refused) }
 
 pub chain-head-spec : {M : Type 1} → statement M
 chain-head-spec =
@@ -50,9 +39,5 @@ chain-head-spec =
     chain-heads-requires
     chain-word-requires
     refused-requires
-    same-length
-    same-length-2
     returns
-    same-length-3
-    same-length-4
     returns-2)

@@ -1,6 +1,6 @@
 -- `mover::Mover::chain_word` meets its contract.
--- Relies on Turns.
-use Rattle.mover.proofs.Turns.{word-level, word-node}
+-- Relies on Ways.
+use Rattle.mover.proofs.Ways.{word-level, word-node}
 use Rattle.words.proofs.Choice.{via}
 use borrow.Author.Needs.{needs}
 use Rattle.mover.proofs.Mover.chain_word.Statement.{statement}

@@ -1,6 +1,6 @@
 -- `mover::Mover::end` meets its contract.
--- Relies on Turns.
-use Rattle.mover.proofs.Turns.{end-way}
+-- Relies on Ways.
+use Rattle.mover.proofs.Ways.{end-way}
 use borrow.Author.Needs.{needs}
 use Rattle.mover.proofs.Mover.end.Statement.{statement}
 use Rattle.mover.proofs.Mover.end.Tie as tie

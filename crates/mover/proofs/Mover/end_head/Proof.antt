@@ -1,6 +1,6 @@
 -- `mover::Mover::end_head` meets its contract.
--- Relies on Turns.
-use Rattle.mover.proofs.Turns.{end-look, end-set}
+-- Relies on Ways.
+use Rattle.mover.proofs.Ways.{end-look, end-set}
 use Rattle.words.proofs.Auto.{tests}
 use borrow.Author.Needs.{needs}
 use Rattle.mover.proofs.Mover.end_head.Statement.{statement}

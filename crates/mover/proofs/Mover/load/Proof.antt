@@ -11,6 +11,9 @@ moves-at-requires c κs = search needs
 less-one-requires : tie.Need-less-one-requires
 less-one-requires c κs = search needs
 
+move-place-requires : tie.Need-move-place-requires
+move-place-requires c κs = search needs
+
 load-requires : tie.Need-load-requires
 load-requires c κs = search needs
 
@@ -26,6 +29,7 @@ load-spec =
     (tie.spec
     moves-at-requires
     less-one-requires
+    move-place-requires
     load-requires
     outer-at-requires
     returns)

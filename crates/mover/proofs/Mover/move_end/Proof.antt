@@ -1,7 +1,8 @@
 -- `mover::Mover::move_end` meets its contract.
--- Relies on Asked, on Turns.
+-- Relies on Asked, on Bounds, on Turns.
 use Rattle.mover.proofs.Asked.{ends-asked, ends-child}
-use Rattle.mover.proofs.Turns.{counts-end, counts-refused, end-is, six-no, six-yes}
+use Rattle.mover.proofs.Bounds.{counts-end, counts-refused, most-end, most-refused}
+use Rattle.mover.proofs.Turns.{end-is, six-no, six-yes}
 use borrow.Author.Needs.{needs}
 use Rattle.mover.proofs.Mover.move_end.Statement.{statement}
 use Rattle.mover.proofs.Mover.move_end.Tie as tie
@@ -31,7 +32,7 @@ same-length-2 : tie.Need-same-length-2
 same-length-2 c = search needs
 
 returns : tie.Need-returns
-returns c = record { gives = λ os a. search (needs, six-yes, ends-asked, end-is); counts = search (needs, counts-end) }
+returns c = record { gives = λ a os o. search (needs, six-yes, ends-asked, end-is); counts = search (needs, counts-end); most = λ h. search (needs, most-end) }
 
 same-length-3 : tie.Need-same-length-3
 same-length-3 c = search needs
@@ -40,7 +41,7 @@ same-length-4 : tie.Need-same-length-4
 same-length-4 c = search needs
 
 returns-2 : tie.Need-returns-2
-returns-2 c = record { gives = λ os a. search (needs, six-no, ends-asked); counts = search (needs, counts-refused) }
+returns-2 c = record { gives = λ a os o. search (needs, six-no, ends-asked); counts = search (needs, counts-refused); most = λ h. search (needs, most-refused) }
 
 pub move-end-spec : {M : Type 1} → statement M
 move-end-spec =

@@ -1,6 +1,6 @@
 -- `mover::Mover::place` meets its contract.
--- Relies on Turns.
-use Rattle.mover.proofs.Turns.{place-done, place-failed}
+-- Relies on Ways.
+use Rattle.mover.proofs.Ways.{place-done, place-failed}
 use Rattle.words.proofs.Choice.{via}
 use borrow.Author.Needs.{needs}
 use Rattle.mover.proofs.Mover.place.Statement.{statement}
@@ -11,9 +11,6 @@ cell-at-requires c κs = search needs
 
 refers-to-requires : tie.Need-refers-to-requires
 refers-to-requires c κs = search needs
-
-last-node-requires : tie.Need-last-node-requires
-last-node-requires c κs = search needs
 
 node-ref-requires : tie.Need-node-ref-requires
 node-ref-requires c κs = search needs
@@ -54,7 +51,6 @@ place-spec =
     (tie.spec
     cell-at-requires
     refers-to-requires
-    last-node-requires
     node-ref-requires
     set-cell-requires
     set-done-requires

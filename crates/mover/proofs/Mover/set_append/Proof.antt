@@ -1,9 +1,9 @@
 -- `mover::Mover::set_append` meets its contract.
--- Relies on Asked, on Turns.
-use Rattle.mover.proofs.Asked.{appends-last}
-use Rattle.mover.proofs.Turns.{counts-place, counts-refused, place-is, six-no, six-yes}
+-- Relies on Asked, on Bounds, on Turns.
+use Rattle.mover.proofs.Asked.{appends-asked, appends-last}
+use Rattle.mover.proofs.Bounds.{counts-place, counts-refused, most-place, most-refused}
+use Rattle.mover.proofs.Turns.{place-is, six-no, six-yes}
 use Rattle.rules.specs.Moving.{setAppend}
-use Rattle.words.proofs.Choice.{via}
 use borrow.Author.Needs.{needs}
 use Rattle.mover.proofs.Mover.set_append.Statement.{statement}
 use Rattle.mover.proofs.Mover.set_append.Tie as tie
@@ -25,10 +25,10 @@ same-length-2 c = search needs
 
 returns : tie.Need-returns
 unfolding setAppend
-returns c = record { gives = λ os a. search (needs, via, six-yes, place-is); counts = search (needs, counts-place) }
+returns c = record { gives = λ a os o. search (needs, six-yes, appends-asked, place-is); counts = search (needs, counts-place); most = λ h. search (needs, most-place) }
 
 returns-2 : tie.Need-returns-2
-returns-2 c = record { gives = λ os a. search (needs, via, six-no); counts = search (needs, counts-refused) }
+returns-2 c = record { gives = λ a os o. search (needs, six-no, appends-asked); counts = search (needs, counts-refused); most = λ h. search (needs, most-refused) }
 
 pub set-append-spec : {M : Type 1} → statement M
 set-append-spec =

@@ -1,6 +1,6 @@
 -- `mover::Mover::set_done` meets its contract.
--- Relies on Turns.
-use Rattle.mover.proofs.Turns.{done-way}
+-- Relies on Ways.
+use Rattle.mover.proofs.Ways.{done-way}
 use borrow.Author.Needs.{needs}
 use Rattle.mover.proofs.Mover.set_done.Statement.{statement}
 use Rattle.mover.proofs.Mover.set_done.Tie as tie

@@ -1,6 +1,7 @@
 -- `mover::Mover::set_follow` meets its contract.
--- Relies on Turns.
-use Rattle.mover.proofs.Turns.{counts-refused, counts-stay, follow-is, six-no, six-yes}
+-- Relies on Bounds, on Turns.
+use Rattle.mover.proofs.Bounds.{counts-refused, counts-stay, most-refused, most-stay}
+use Rattle.mover.proofs.Turns.{follow-is, six-no, six-yes}
 use Rattle.rules.specs.Moving.{setFollow}
 use Rattle.words.proofs.Choice.{via}
 use borrow.Author.Needs.{needs}
@@ -22,24 +23,12 @@ stay-requires c κs = search needs
 refused-requires : tie.Need-refused-requires
 refused-requires c κs = search needs
 
-same-length : tie.Need-same-length
-same-length c = search needs
-
-same-length-2 : tie.Need-same-length-2
-same-length-2 c = search needs
-
 returns : tie.Need-returns
 unfolding setFollow
-returns c = record { gives = λ os a. search (needs, via, six-yes, follow-is); counts = search (needs, counts-stay) }
-
-same-length-3 : tie.Need-same-length-3
-same-length-3 c = search needs
-
-same-length-4 : tie.Need-same-length-4
-same-length-4 c = search needs
+returns c = record { gives = λ a os o. search (needs, via, six-yes, follow-is); counts = search (needs, counts-stay); most = λ h. search (needs, most-stay) }
 
 returns-2 : tie.Need-returns-2
-returns-2 c = record { gives = λ os a. search (needs, via, six-no); counts = search (needs, counts-refused) }
+returns-2 c = record { gives = λ a os o. search (needs, via, six-no); counts = search (needs, counts-refused); most = λ h. search (needs, most-refused) }
 
 pub set-follow-spec : {M : Type 1} → statement M
 set-follow-spec =
@@ -50,9 +39,5 @@ set-follow-spec =
     follow-head-requires
     stay-requires
     refused-requires
-    same-length
-    same-length-2
     returns
-    same-length-3
-    same-length-4
     returns-2)

@@ -1,9 +1,9 @@
 -- `mover::Mover::set_put` meets its contract.
--- Relies on Asked, on Turns.
-use Rattle.mover.proofs.Asked.{puts-last}
-use Rattle.mover.proofs.Turns.{counts-place, counts-refused, place-is, six-no, six-yes}
+-- Relies on Asked, on Bounds, on Turns.
+use Rattle.mover.proofs.Asked.{puts-asked, puts-last}
+use Rattle.mover.proofs.Bounds.{counts-place, counts-refused, most-place, most-refused}
+use Rattle.mover.proofs.Turns.{place-is, set-cell, six-no, six-yes}
 use Rattle.rules.specs.Moving.{setPut}
-use Rattle.words.proofs.Choice.{via}
 use borrow.Author.Needs.{needs}
 use Rattle.mover.proofs.Mover.set_put.Statement.{statement}
 use Rattle.mover.proofs.Mover.set_put.Tie as tie
@@ -28,7 +28,7 @@ same-length-2 c = search needs
 
 returns : tie.Need-returns
 unfolding setPut
-returns c = record { gives = λ os a. search (needs, via, six-yes, place-is); counts = search (needs, counts-place) }
+returns c = record { gives = λ a os o. search (needs, six-yes, puts-asked, place-is, set-cell); counts = search (needs, counts-place); most = λ h. search (needs, most-place) }
 
 same-length-3 : tie.Need-same-length-3
 same-length-3 c = search needs
@@ -37,7 +37,7 @@ same-length-4 : tie.Need-same-length-4
 same-length-4 c = search needs
 
 returns-2 : tie.Need-returns-2
-returns-2 c = record { gives = λ os a. search (needs, via, six-no); counts = search (needs, counts-refused) }
+returns-2 c = record { gives = λ a os o. search (needs, six-no, puts-asked); counts = search (needs, counts-refused); most = λ h. search (needs, most-refused) }
 
 pub set-put-spec : {M : Type 1} → statement M
 set-put-spec =

@@ -1,17 +1,18 @@
 -- `mover::Mover::set_read` meets its contract.
--- Relies on Turns.
-use Rattle.mover.proofs.Turns.{cell-word, counts-refused, counts-stay, read-is, six-no, six-yes}
+-- Relies on Asked, on Bounds, on Turns.
+use Rattle.mover.proofs.Asked.{looks-asked}
+use Rattle.mover.proofs.Bounds.{counts-refused, counts-stay, most-refused, most-stay}
+use Rattle.mover.proofs.Turns.{read-is, set-word, six-no, six-yes}
 use Rattle.rules.specs.Moving.{setRead}
-use Rattle.words.proofs.Choice.{via}
 use borrow.Author.Needs.{needs}
 use Rattle.mover.proofs.Mover.set_read.Statement.{statement}
 use Rattle.mover.proofs.Mover.set_read.Tie as tie
 
-set-looks-requires : tie.Need-set-looks-requires
-set-looks-requires c κs = search needs
-
 set-cell-of-requires : tie.Need-set-cell-of-requires
 set-cell-of-requires c κs = search needs
+
+set-looks-requires : tie.Need-set-looks-requires
+set-looks-requires c κs = search needs
 
 cell-at-requires : tie.Need-cell-at-requires
 cell-at-requires c κs = search needs
@@ -28,24 +29,12 @@ stay-requires c κs = search needs
 refused-requires : tie.Need-refused-requires
 refused-requires c κs = search needs
 
-same-length : tie.Need-same-length
-same-length c = search needs
-
-same-length-2 : tie.Need-same-length-2
-same-length-2 c = search needs
-
 returns : tie.Need-returns
 unfolding setRead
-returns c = record { gives = λ os a. search (needs, via, six-yes, read-is, cell-word); counts = search (needs, counts-stay) }
-
-same-length-3 : tie.Need-same-length-3
-same-length-3 c = search needs
-
-same-length-4 : tie.Need-same-length-4
-same-length-4 c = search needs
+returns c = record { gives = λ a os o. search (needs, six-yes, looks-asked, read-is, set-word); counts = search (needs, counts-stay); most = λ h. search (needs, most-stay) }
 
 returns-2 : tie.Need-returns-2
-returns-2 c = record { gives = λ os a. search (needs, via, six-no); counts = search (needs, counts-refused) }
+returns-2 c = record { gives = λ a os o. search (needs, six-no, looks-asked); counts = search (needs, counts-refused); most = λ h. search (needs, most-refused) }
 
 pub set-read-spec : {M : Type 1} → statement M
 set-read-spec =
@@ -58,9 +47,5 @@ set-read-spec =
     met-head-requires
     stay-requires
     refused-requires
-    same-length
-    same-length-2
     returns
-    same-length-3
-    same-length-4
     returns-2)

@@ -1,6 +1,7 @@
 -- `mover::Mover::set_tail` meets its contract.
--- Relies on Turns.
-use Rattle.mover.proofs.Turns.{counts-refused, counts-stay, looked-at, six-no, six-yes}
+-- Relies on Bounds, on Turns.
+use Rattle.mover.proofs.Bounds.{counts-refused, counts-stay, most-refused, most-stay}
+use Rattle.mover.proofs.Turns.{looked-at, six-no, six-yes}
 use Rattle.rules.specs.Moving.{setTail}
 use Rattle.words.proofs.Choice.{via}
 use borrow.Author.Needs.{needs}
@@ -25,18 +26,12 @@ stay-requires c κs = search needs
 refused-requires : tie.Need-refused-requires
 refused-requires c κs = search needs
 
-same-length : tie.Need-same-length
-same-length c = search needs
-
 returns : tie.Need-returns
 unfolding setTail
-returns c = record { gives = λ os a. search (needs, via, six-yes, looked-at); counts = search (needs, counts-stay) }
-
-same-length-2 : tie.Need-same-length-2
-same-length-2 c = search needs
+returns c = record { gives = λ a os o. search (needs, via, six-yes, looked-at); counts = search (needs, counts-stay); most = λ h. search (needs, most-stay) }
 
 returns-2 : tie.Need-returns-2
-returns-2 c = record { gives = λ os a. search (needs, via, six-no); counts = search (needs, counts-refused) }
+returns-2 c = record { gives = λ a os o. search (needs, via, six-no); counts = search (needs, counts-refused); most = λ h. search (needs, most-refused) }
 
 pub set-tail-spec : {M : Type 1} → statement M
 set-tail-spec =
@@ -48,7 +43,5 @@ set-tail-spec =
     peeked-requires
     stay-requires
     refused-requires
-    same-length
     returns
-    same-length-2
     returns-2)

@@ -8,8 +8,8 @@ use Rattle.mover.proofs.Mover.store.Tie as tie
 moves-at-requires : tie.Need-moves-at-requires
 moves-at-requires c κs = search needs
 
-store-requires : tie.Need-store-requires
-store-requires c κs = search needs
+store-head-requires : tie.Need-store-head-requires
+store-head-requires c κs = search needs
 
 store-inner-requires : tie.Need-store-inner-requires
 store-inner-requires c κs = search needs
@@ -23,9 +23,4 @@ returns c = search (needs, store-way)
 pub store-spec : {M : Type 1} → statement M
 store-spec =
     tie.close
-    (tie.spec
-    moves-at-requires
-    store-requires
-    store-inner-requires
-    same-length
-    returns)
+    (tie.spec moves-at-requires store-head-requires store-inner-requires same-length returns)

@@ -1,0 +1,52 @@
+-- `mover::Inner::store_last` meets its contract.
+-- Relies on Stored.
+use Rattle.mover.proofs.Stored.{last-more, last-none}
+use Rattle.words.proofs.Auto.{tests}
+use borrow.Author.Needs.{needs}
+use Rattle.mover.proofs.Inner.store_last.Statement.{statement}
+use Rattle.mover.proofs.Inner.store_last.Tie as tie
+
+add-at : tie.Need-add-at
+add-at c = search needs
+
+at-requires : tie.Need-at-requires
+at-requires c κs = search needs
+
+add-put : tie.Need-add-put
+add-put c = search needs
+
+cast-put : tie.Need-cast-put
+cast-put c = search needs
+
+add-put-2 : tie.Need-add-put-2
+add-put-2 c = search needs
+
+put-requires : tie.Need-put-requires
+put-requires c κs = search needs
+
+same-length : tie.Need-same-length
+same-length c = search needs
+
+returns : tie.Need-returns
+returns c = search (tests, last-more)
+
+same-length-2 : tie.Need-same-length-2
+same-length-2 c = search needs
+
+returns-2 : tie.Need-returns-2
+returns-2 c = search (tests, last-none)
+
+pub store-last-spec : {M : Type 1} → statement M
+store-last-spec =
+    tie.close
+    (tie.spec
+    add-at
+    at-requires
+    add-put
+    cast-put
+    add-put-2
+    put-requires
+    same-length
+    returns
+    same-length-2
+    returns-2)
