@@ -9,11 +9,12 @@ use native.Mathlib.Numerals.{add-one}
 use native.Mathlib.Decide.{ℕ-discrete}
 use native.Mathlib.Omega.{arith}
 use lib.Dec.{eqb, ltb, leb}
-use lib.ListN.{length, getD, drop, drop-of-length-le}
-use lib.Seq.{drop-cons}
-use borrow.Author.Tests.{eq-eqb, ne-eqb, lt-ltb, le-ltb, ltb-true, le-leb, lt-leb}
+use lib.ListN.{length, getD, take, drop, drop-of-length-le}
+use lib.Seq.{take-all, drop-cons}
+use borrow.Author.Tests.{eq-eqb, ne-eqb, lt-ltb, ltb-true}
 use Rattle.words.specs.Choice.{pick, both, every, asks, firstNo}
-use Rattle.words.proofs.Choice.{pick-both, pick-true, pick-false, both-left, both-right, both-false-left}
+use Rattle.words.proofs.Choice.{true-false, pick-both, pick-true, pick-false, both-left, both-right}
+use Rattle.settings.specs.Cut.{counted}
 use Rattle.settings.specs.Sizes.{firstThree, Sized}
 use Rattle.settings.specs.declared.Settings.{Settings}
 use Rattle.settings.proofs.Laws.{three-yes, sized}
@@ -27,16 +28,13 @@ use Rattle.rules.specs.Operations.{Result, result, reply, refused, unlessRefuse
 use Rattle.rules.specs.Lists.{State, state, after, turns, turnsResult, visits, listQuestions}
 use Rattle.rules.proofs.OneTurn.{six-leaves}
 use Rattle.table.specs.Cut.{firstFour}
-use Rattle.turns.specs.Cut.{turnHere, idleReply, doneOf, Did, did, didBy, didHere, counted}
+use Rattle.turns.specs.Cut.{turnHere, idleReply, doneOf, Did, did, didBy, didHere}
 use Rattle.turns.specs.declared.Done.{Done}
 use Rattle.turns.proofs.Ways.{three-of, three-inside, here-idle, here-turn}
 use Rattle.lists.specs.declared.Tally.{Tally}
 use Rattle.lists.specs.Cut.{Run, run, countedBy, ranOf, tally, idleTally, openTally, overOf, ranBy, ranEntry, ranList, ranResult}
 use Rattle.turns.proofs.Three.{Three, three-stays, SameSizes, sizes-stay}
 use Rattle.lists.proofs.ListCut.{stopped, refused-on, eight-idle, list-cut}
-
-true-false : true ≡ false → ⊥
-true-false q = let z : _≡_ {A = ℕ} 0 1 = cc in omega arith
 
 -- questions 1 to 3 as the code asks them
 pub of-three : (w : ℕ) (s : Settings) (n g k : List ℕ) {crew : ℕ} → Three w crew (state s (areas n g k)) → firstThree w s (length n) (length g) (length k) ≡ 0
@@ -45,13 +43,13 @@ of-three w s n g k y = simp (y .one, y .two, y .three)
 
 -- the tally after an entry, and whether the list goes no further
 module _ (t : Tally) where
-  pub idle-skipped : (v : ℕ) → v ≤ 3 → t ≡ idleTally t v
+  pub idle-skipped : (v : ℕ) {b : Bool} → b ≡ leb v 3 → b ≡ true → t ≡ idleTally t v
   unfolding idleTally
-  idle-skipped v e = sym (pick-true _ _ _ (le-leb _ _ e))
+  idle-skipped v e y = sym (pick-true _ _ _ (sym e ∙ y))
 
-  pub idle-spoiled : (v : ℕ) {u : Tally} → u ≡ tally 6 (t .«nodes_taken») (t .«levels_taken») (t .left) → 3 < v → u ≡ idleTally t v
+  pub idle-spoiled : (v : ℕ) {u : Tally} {b : Bool} → u ≡ tally 6 (t .«nodes_taken») (t .«levels_taken») (t .left) → b ≡ leb v 3 → b ≡ false → u ≡ idleTally t v
   unfolding idleTally
-  idle-spoiled v a e = a ∙ sym (pick-false _ _ _ (lt-leb _ _ e))
+  idle-spoiled v a e y = a ∙ sym (pick-false _ _ _ (sym e ∙ y))
 
   pub open-six : (d : Done) {u : Tally} → u ≡ tally 6 (t .«nodes_taken») (t .«levels_taken») (t .left) → d .number ≡ 6 → u ≡ openTally t d
   unfolding openTally
@@ -95,10 +93,6 @@ module _ (t : Tally) where
   ended-is s limit e f = rw (e, f) refl
 
 -- the settings of a turn that leaves the sizes, by its counts
-pub with-counts : (s : Settings) (n g : ℕ) → record { workers = s .workers; limit = s .limit; nodes = s .nodes; «nodes_taken» = n; «levels_taken» = g } ≡ counted s n g
-unfolding counted
-with-counts s n g = refl
-
 counted-is : (s n : Settings) → SameSizes s n → counted s (n .«nodes_taken») (n .«levels_taken») ≡ n
 unfolding counted
 counted-is s n k = rw (← k .workers-is, ← k .limit-is, ← k .nodes-is) refl
@@ -230,31 +224,29 @@ list-over w l s t a {b} {x} e f z = by (ℕ-discrete (t .left) 0) (ℕ-discrete 
         let c : false ≡ true = sym (pick-false _ _ _ (ne-eqb _ _ h) ∙ pick-true _ _ _ (eq-eqb _ _ y)) ∙ sym f ∙ z in
         absurd (true-false (sym c))
 
-both-yes : (a b : Bool) → a ≡ true → both a b ≡ b
+both-swap : (a b c : Bool) → both a (both b c) ≡ both b (both a c)
 unfolding both
-both-yes a b e = simp e
+both-swap true b c = refl
+both-swap false true c = refl
+both-swap false false c = refl
 
--- the entries of a list are below n
-module _ (l : List ℕ) (n k : ℕ) where
-  pub below-more : {v : ℕ} → every (λ i. ltb i n) (drop k l) ≡ every (λ i. ltb i n) l → v ≡ getD l k 0 → v < n → k < length l → every (λ i. ltb i n) (drop (k + 1) l) ≡ every (λ i. ltb i n) l
-  unfolding every
-  below-more e a h j =
-      let c : both (ltb (getD l k 0) n) (every (λ i. ltb i n) (drop (suc k) l)) ≡ every (λ i. ltb i n) (drop k l) = rw (drop-cons l k 0 j) refl in
-      let d : ltb (getD l k 0) n ≡ true = lt-ltb (getD l k 0) n (rw (← a) h) in
-      rw add-one (sym (both-yes _ _ d) ∙ c ∙ e)
+-- all_below: no entry yet, one more, and all
+below-last : (l : List ℕ) (n k : ℕ) → k < length l → every (λ i. ltb i n) (take (suc k) l) ≡ both (ltb (getD l k 0) n) (every (λ i. ltb i n) (take k l))
+unfolding every
+below-last [] n k h = absurd (omega arith)
+below-last (x ∷ l) n zero h = refl
+below-last (x ∷ l) n (suc k) h = ap (both (ltb x n)) (below-last l n k (omega arith)) ∙ both-swap (ltb x n) (ltb (getD l k 0) n) _
 
-  pub below-not : {v : ℕ} → every (λ i. ltb i n) (drop k l) ≡ every (λ i. ltb i n) l → v ≡ getD l k 0 → n ≤ v → k < length l → false ≡ every (λ i. ltb i n) l
+module _ (l : List ℕ) (n : ℕ) where
+  pub below-none : true ≡ every (λ i. ltb i n) (take 0 l)
   unfolding every
-  below-not e a h j =
-      let c : both (ltb (getD l k 0) n) (every (λ i. ltb i n) (drop (suc k) l)) ≡ every (λ i. ltb i n) (drop k l) = rw (drop-cons l k 0 j) refl in
-      let d : ltb (getD l k 0) n ≡ false = le-ltb (getD l k 0) n (rw (← a) h) in
-      sym (both-false-left _ d) ∙ c ∙ e
+  below-none = refl
 
-  pub below-all : every (λ i. ltb i n) (drop k l) ≡ every (λ i. ltb i n) l → length l ≤ k → true ≡ every (λ i. ltb i n) l
-  unfolding every
-  below-all e h =
-      let c : every (λ i. ltb i n) (drop k l) ≡ true = rw (drop-of-length-le l h) refl in
-      sym c ∙ e
+  pub below-more : (k : ℕ) {b x y : Bool} {v : ℕ} → b ≡ both x y → x ≡ ltb v n → v ≡ getD l k 0 → y ≡ every (λ i. ltb i n) (take k l) → k < length l → b ≡ every (λ i. ltb i n) (take (k + 1) l)
+  below-more k a c d e h = rw (add-one, below-last l n k h, a, c, d, e) refl
+
+  pub below-all : (k : ℕ) {b : Bool} → b ≡ every (λ i. ltb i n) (take k l) → length l ≤ k → b ≡ every (λ i. ltb i n) l
+  below-all k e h = e ∙ ap (every (λ i. ltb i n)) (take-all k l h)
 
 -- an entry of a list whose entries are below the number of workers
 pub entry-below : (l : List ℕ) (k : ℕ) {n v : ℕ} → every (λ i. ltb i n) l ≡ true → v ≡ getD l k 0 → k < length l → v < n

@@ -17,10 +17,13 @@ use record::Answer;
 use record::Reply;
 use record::answer_at;
 use record::idle_at;
+use record::idle_fits;
 use settings::Settings;
 use table::refusal;
 use turns::Done;
 use turns::open_here;
+use words::and;
+use words::lt;
 
 // Where a list of turns stands: 0 or 6, nodes taken, levels taken, and the turns that may still be done. A turn changes no other setting.
 pub struct Tally {
@@ -28,16 +31,6 @@ pub struct Tally {
     pub nodes_taken: u32,
     pub levels_taken: u32,
     pub left: u32,
-}
-
-// The list's settings with the counts that it has come to.
-fn with_counts(s: Settings, t: Tally) -> Settings
-    ensures { λ r. ⌜ r ≡ countedBy s t ⌝ }
-{
-    let mut n = s;
-    n.nodes_taken = t.nodes_taken;
-    n.levels_taken = t.levels_taken;
-    n
 }
 
 // The tally after a 6: nothing else has changed.
@@ -56,7 +49,7 @@ fn ended_six(t: Tally) -> Tally
 fn idle_entry(t: Tally, answer: u32) -> Tally
     ensures { λ u. ⌜ u ≡ idleTally t answer ⌝ }
 {
-    if answer <= 3 { t } else { ended_six(t) }
+    if idle_fits(answer) { t } else { ended_six(t) }
 }
 
 // The tally after the turn of a worker with a call open: ended by a 6, else one turn less is left.
@@ -92,7 +85,7 @@ fn open_entry(
     requires { ⌜ 1 ≤ kindNo (headAt 3 (now workers) i .kind) ⌝ }
     ensures { λ u. ⌜ ranOf s u (areas (now (nodes .exit)) (now (levels .exit)) (now (workers .exit))) ≡ ranEntry 3 (ranOf s t (areas (now (nodes .entry)) (now (levels .entry)) (now (workers .entry)))) i ⌝ }
 {
-    let n = with_counts(s, t);
+    let n = s.with_counts(t.nodes_taken, t.levels_taken);
     let d = open_here(n, i, nodes, levels, workers);
     tallied(t, d)
 }
@@ -140,15 +133,13 @@ fn wide(x: u8) -> u32
 fn all_below(list: &[u8], n: u32) -> bool
     ensures { λ r. ⌜ r ≡ every (λ i. ltb i n) (now (list .entry)) ⌝ }
 {
+    let mut ok = true;
     let mut k = 0;
     while k < list.len() {
-        if wide(list[k]) < n {
-            k += 1;
-        } else {
-            return false;
-        }
+        ok = and(lt(wide(list[k]), n), ok);
+        k += 1;
     }
-    true
+    ok
 }
 
 // The entries of a list, one after the other, until its limit is used up or a 6 is met.
@@ -197,7 +188,7 @@ fn ended_list(s: Settings, t: Tally, limit: u32) -> Reply
         number: t.number,
         answer: Answer::Nothing,
         turns: less(limit, t.left),
-        settings: with_counts(s, t),
+        settings: s.with_counts(t.nodes_taken, t.levels_taken),
     }
 }
 

@@ -408,6 +408,13 @@ pub fn move_fits(s: Settings, h: Head, words: &[u32], i: u32) -> bool
     }
 }
 
+// An idle worker's record fits its layout, by the number of its last answer.
+pub fn idle_fits(answer: u32) -> bool
+    ensures { λ r. ⌜ r ≡ leb answer 3 ⌝ }
+{
+    answer <= 3
+}
+
 // The record of worker i with the head h fits its layout.
 pub fn fits(s: Settings, h: Head, words: &[u32], i: u32) -> bool
     requires { ⌜ s .limit ≤ 8 ⌝ }
@@ -417,7 +424,7 @@ pub fn fits(s: Settings, h: Head, words: &[u32], i: u32) -> bool
     let kind = h.kind;
     let k = kind_no(kind);
     if k == 0 {
-        le(h.answer, 3)
+        idle_fits(h.answer)
     } else {
         if k <= 10 {
             search_fits(s, h, words, i)

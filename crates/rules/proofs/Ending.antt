@@ -7,7 +7,7 @@ use mathlib.Core.Bool.{true, false}
 use native.Mathlib.Omega.{arith}
 use lib.Dec.{eqb}
 use borrow.Author.Tests.{eqb-true, ltb-false}
-use Rattle.words.proofs.Choice.{pick-both}
+use Rattle.words.proofs.Choice.{true-false, pick-both}
 use Rattle.settings.specs.declared.Settings.{Settings}
 use Rattle.areas.specs.Memory.{Memory}
 use Rattle.record.specs.declared.Kind.{Kind}
@@ -41,9 +41,6 @@ none-left s r =
     (λ e q. record { taking = t; holds-none = eqb-true _ _ e; all-taken = ltb-false _ _ q })
     (λ e q. absurd (true-false q)))
     (λ t q. absurd (true-false q))
-  where
-    true-false : true ≡ false → ⊥
-    true-false q = let z : _≡_ {A = ℕ} 0 1 = cc in omega arith
 
 idle-no : {k : Kind} → k ≡ Idle → kindNo k ≡ 0
 unfolding kindNo

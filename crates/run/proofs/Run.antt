@@ -4,6 +4,7 @@ use mathlib.Core.Path.{_≡_, refl, sym, ap, subst, _∙_}
 use mathlib.Core.Bool.{Bool, true, false}
 use mathlib.Core.List.{List, [], _∷_}
 use Prim.Native.Nat.{ℕ, _<_}
+use Rattle.words.proofs.Choice.{true-false}
 use Rattle.areas.specs.Memory.{Areas}
 use Rattle.text.specs.declared.Printed.{Printed}
 use Rattle.run.specs.declared.Stage.{Stage}
@@ -12,7 +13,7 @@ use Rattle.run.specs.declared.Progress.{Progress}
 use Rattle.run.specs.declared.Told.{Told}
 use Rattle.run.specs.Program.{prints}
 use Rattle.run.specs.Remaining.{begun, remainingAt, remaining, left, FineAt, Fine, Next, goesOn, Stop, Runs, printedBy}
-use Rattle.run.proofs.Stages.{true-false, next-prints}
+use Rattle.run.proofs.Stages.{next-prints}
 
 -- at the beginning all is still to be printed
 pub begins : (input : List ℕ) (a : Areas) → remaining begun input a ≡ prints input a
@@ -26,11 +27,11 @@ begin-fine input e = subst (λ (x : Progress). Fine x input) (sym e) tt
 -- where the run goes no further, nothing is
 at-end : (g : Stage) (p : Progress) (input : List ℕ) (a : Areas) → goesOn g ≡ false → remainingAt g p input a ≡ []
 unfolding remainingAt goesOn
-at-end Begin p input a h = true-false (sym h)
-at-end TooLong p input a h = true-false (sym h)
-at-end First p input a h = true-false (sym h)
-at-end Lines p input a h = true-false (sym h)
-at-end Last p input a h = true-false (sym h)
+at-end Begin p input a h = absurd (true-false h)
+at-end TooLong p input a h = absurd (true-false h)
+at-end First p input a h = absurd (true-false h)
+at-end Lines p input a h = absurd (true-false h)
+at-end Last p input a h = absurd (true-false h)
 at-end Done p input a h = refl
 
 -- what is told until then is what was still to be printed

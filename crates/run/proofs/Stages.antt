@@ -11,6 +11,7 @@ use lib.ListN.{length, take, drop, length-drop}
 use lib.Seq.{take-all, drop-drop}
 use borrow.Author.Tests.{le-leb, lt-leb, eq-eqb, ne-eqb, ltb-true}
 use Rattle.words.specs.Choice.{pick}
+use Rattle.words.proofs.Choice.{true-false}
 use Rattle.settings.specs.Sizes.{fresh}
 use Rattle.settings.specs.declared.Settings.{Settings}
 use Rattle.areas.specs.Memory.{Areas}
@@ -211,9 +212,6 @@ module _ (p : Progress) (input : List ℕ) (a : Areas) where
   unfolding FineAt
   fine-lines h e = subst (λ (g : Stage). FineAt g p input) e h
 
-pub true-false : {A : Type 0} → false ≡ true → A
-true-false q = let z : _≡_ {A = ℕ} 0 1 = cc in absurd (omega arith)
-
 module _ (p : Progress) (input : List ℕ) (a : Areas) (r : Told) (b : Areas) where
   goes : (g : Stage) → goesOn g ≡ true → Prints p input a r b → NextAt g p input a r b
   unfolding NextAt goesOn
@@ -222,7 +220,7 @@ module _ (p : Progress) (input : List ℕ) (a : Areas) (r : Told) (b : Areas) wh
   goes First h x = x
   goes Lines h x = x
   goes Last h x = x
-  goes Done h x = true-false h
+  goes Done h x = absurd (true-false (sym h))
 
   went : (g : Stage) → goesOn g ≡ true → NextAt g p input a r b → Prints p input a r b
   unfolding NextAt goesOn
@@ -231,7 +229,7 @@ module _ (p : Progress) (input : List ℕ) (a : Areas) (r : Told) (b : Areas) wh
   went First h x = x
   went Lines h x = x
   went Last h x = x
-  went Done h x = true-false h
+  went Done h x = absurd (true-false (sym h))
 
   -- one thing is printed where the run goes on, and only there
   pub next-goes : {g : Stage} → Prints p input a r b → p .stage ≡ g → goesOn g ≡ true → Next p input a r b

@@ -3,6 +3,7 @@
 ghost use mathlib.Core.Path.{_≡_};
 ghost use Prim.Native.Nat.{_≤_};
 ghost use lib.Dec.{leb};
+ghost use Rattle.settings.specs.Cut.{counted};
 ghost use Rattle.settings.specs.Sizes.{levelCount, fresh, within, question1, question2, question3, firstThree, openingTwo, Ranges};
 use words::and;
 use words::le;
@@ -60,6 +61,16 @@ impl Settings {
             nodes_taken: 0,
             levels_taken: 1,
         }
+    }
+
+    // The same settings with other counts.
+    pub fn with_counts(self, nodes_taken: u32, levels_taken: u32) -> Settings
+        ensures { λ r. ⌜ r ≡ counted self «nodes_taken» «levels_taken» ⌝ }
+    {
+        let mut s = self;
+        s.nodes_taken = nodes_taken;
+        s.levels_taken = levels_taken;
+        s
     }
 
     // Question 1.

@@ -8,9 +8,10 @@ use mathlib.Core.List.{List, []}
 use native.Mathlib.Omega.{arith}
 use lib.Dec.{eqb, leb}
 use lib.ListN.{length}
-use borrow.Author.Tests.{eq-eqb, ne-eqb, eqb-true, eqb-false, le-leb, lt-leb, leb-true, leb-false, ltb-true}
+use borrow.Author.Tests.{eq-eqb, ne-eqb, eqb-true, eqb-false, le-leb, leb-true, leb-false, ltb-true}
 use Rattle.words.specs.Choice.{pick, both}
 use Rattle.words.proofs.Choice.{pick-both, pick-true, pick-false, both-right}
+use Rattle.settings.specs.Cut.{counted}
 use Rattle.settings.specs.Sizes.{firstThree, question2, maxMoves, workerWords, Sized}
 use Rattle.words.specs.Digits.{depths}
 use Rattle.settings.specs.declared.Settings.{Settings}
@@ -30,7 +31,7 @@ use Rattle.rules.specs.Lists.{state}
 use Rattle.table.specs.Cut.{firstFour}
 use Rattle.table.proofs.Questions.{both-zero}
 use Rattle.turns.specs.declared.Done.{Done}
-use Rattle.turns.specs.Cut.{triedOf, finished, idleReply, turnHere, doneOf, Did, did, didBy, didHere, counted, replyOf}
+use Rattle.turns.specs.Cut.{triedOf, finished, idleReply, turnHere, doneOf, Did, did, didBy, didHere, replyOf}
 use Rattle.turns.proofs.OneCut.{turn-cut}
 use Rattle.turns.proofs.Three.{Three, SameSizes, sizes-stay}
 
@@ -131,19 +132,19 @@ pub done-is : (r : Reply) → record { number = r .number; answer = r .answer; �
 unfolding doneOf
 done-is r = refl
 
-pub reply-is : (s : Settings) (d : Done) {r : Reply} → r ≡ reply (d .number) (d .answer) 0 (record { workers = s .workers; limit = s .limit; nodes = s .nodes; «nodes_taken» = d .«nodes_taken»; «levels_taken» = d .«levels_taken» }) → r ≡ replyOf s d
-unfolding replyOf counted
-reply-is s d e = e
+pub reply-is : (s : Settings) (d : Done) {r : Reply} {n : Settings} → r ≡ reply (d .number) (d .answer) 0 n → n ≡ counted s (d .«nodes_taken») (d .«levels_taken») → r ≡ replyOf s d
+unfolding replyOf
+reply-is s d e f = rw (e, f) refl
 
 -- an idle worker's reply
 module _ (s : Settings) (c : ℕ) where
-  pub idle-eight : {r : Reply} → r ≡ reply 8 Nothing 0 s → c ≤ 3 → r ≡ idleReply s c
+  pub idle-eight : {r : Reply} {b : Bool} → r ≡ reply 8 Nothing 0 s → b ≡ leb c 3 → b ≡ true → r ≡ idleReply s c
   unfolding idleReply
-  idle-eight a e = a ∙ sym (pick-true _ _ _ (le-leb _ _ e))
+  idle-eight a e y = a ∙ sym (pick-true _ _ _ (sym e ∙ y))
 
-  pub idle-six : {r : Reply} → r ≡ reply 6 Nothing 0 s → 3 < c → r ≡ idleReply s c
+  pub idle-six : {r : Reply} {b : Bool} → r ≡ reply 6 Nothing 0 s → b ≡ leb c 3 → b ≡ false → r ≡ idleReply s c
   unfolding idleReply
-  idle-six a e = a ∙ sym (pick-false _ _ _ (lt-leb _ _ e))
+  idle-six a e y = a ∙ sym (pick-false _ _ _ (sym e ∙ y))
 
 -- a worker that is not idle, and the head that was read of it
 module _ (w : ℕ) (l : List ℕ) (i : ℕ) where

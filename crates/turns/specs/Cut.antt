@@ -3,6 +3,7 @@
 use Prim.Native.Nat.{ℕ}
 use lib.Dec.{eqb, leb}
 use Rattle.words.specs.Choice.{pick}
+use Rattle.settings.specs.Cut.{counted}
 use Rattle.settings.specs.declared.Settings.{Settings}
 use Rattle.areas.specs.Memory.{Areas, areas, Memory}
 use Rattle.record.specs.declared.Answer.the-variants.{Nothing}
@@ -56,11 +57,6 @@ didBy x = did (doneOf (x .reply)) (x .areas)
 
 abbrev pub didHere : ℕ → Settings → ℕ → Areas → Did
 didHere w s i a = didBy (turnHere w s i a)
-
--- settings with other counts
-unfoldable pub counted : Settings → ℕ → ℕ → Settings
-counted s n g =
-    record { workers = s .workers; limit = s .limit; nodes = s .nodes; «nodes_taken» = n; «levels_taken» = g }
 
 unfoldable pub replyOf : Settings → Done → Reply
 replyOf s d = reply (d .number) (d .answer) 0 (counted s (d .«nodes_taken») (d .«levels_taken»))

@@ -20,6 +20,7 @@ use record::Move;
 use record::Reply;
 use record::answer_at;
 use record::idle_at;
+use record::idle_fits;
 use record::inside;
 use record::kind_no;
 use record::move_fits;
@@ -205,7 +206,7 @@ pub fn open_here(
 fn idle_here(s: Settings, answer: u32) -> Reply
     ensures { λ r. ⌜ r ≡ idleReply s answer ⌝ }
 {
-    if answer <= 3 {
+    if idle_fits(answer) {
         refusal(8, s)
     } else {
         refusal(6, s)
@@ -216,9 +217,7 @@ fn idle_here(s: Settings, answer: u32) -> Reply
 fn reply_of(s: Settings, d: Done) -> Reply
     ensures { λ r. ⌜ r ≡ replyOf s d ⌝ }
 {
-    let mut n = s;
-    n.nodes_taken = d.nodes_taken;
-    n.levels_taken = d.levels_taken;
+    let n = s.with_counts(d.nodes_taken, d.levels_taken);
     let a = d.answer;
     replied(d.number, a, n)
 }

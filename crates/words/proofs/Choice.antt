@@ -1,9 +1,14 @@
 -- The choice by a test and tests with parts: what they are where the test is known, and what a yes says of the parts.
 -- Relies on nothing.
+use Prim.Native.Nat.{ℕ}
 use mathlib.Core.Path.{_≡_, refl, ap, sym, _∙_}
 use mathlib.Core.Bool.{Bool, true, false}
 use mathlib.Core.List.{List, List·Memᴰ, List·Memᴰ·head, List·Memᴰ·tail}
+use native.Mathlib.Omega.{arith}
 use Rattle.words.specs.Choice.{pick, both, every}
+
+pub true-false : true ≡ false → ⊥
+true-false q = let z : _≡_ {A = ℕ} 0 1 = cc in omega arith
 
 -- what holds of both branches of a choice holds of the choice
 pub pick-both {ℓ κ} :

@@ -9,8 +9,8 @@ use Rattle.record.proofs.fits.Tie as tie
 kind-no-requires : tie.Need-kind-no-requires
 kind-no-requires c κs = search needs
 
-le-requires : tie.Need-le-requires
-le-requires c κs = search needs
+idle-fits-requires : tie.Need-idle-fits-requires
+idle-fits-requires c κs = search needs
 
 search-fits-requires : tie.Need-search-fits-requires
 search-fits-requires c κs = search (needs, kind-open, kind-low)
@@ -32,7 +32,7 @@ fits-spec =
     tie.close
     (tie.spec
     kind-no-requires
-    le-requires
+    idle-fits-requires
     search-fits-requires
     move-fits-requires
     returns

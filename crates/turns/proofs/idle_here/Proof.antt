@@ -5,6 +5,9 @@ use borrow.Author.Needs.{needs}
 use Rattle.turns.proofs.idle_here.Statement.{statement}
 use Rattle.turns.proofs.idle_here.Tie as tie
 
+idle-fits-requires : tie.Need-idle-fits-requires
+idle-fits-requires c κs = search needs
+
 refusal-requires : tie.Need-refusal-requires
 refusal-requires c κs = search needs
 
@@ -18,4 +21,4 @@ returns-2 : tie.Need-returns-2
 returns-2 c = search (needs, idle-six)
 
 pub idle-here-spec : {M : Type 1} → statement M
-idle-here-spec = tie.close (tie.spec refusal-requires refusal-requires-2 returns returns-2)
+idle-here-spec = tie.close (tie.spec idle-fits-requires refusal-requires refusal-requires-2 returns returns-2)

@@ -5,6 +5,9 @@ use borrow.Author.Needs.{needs}
 use Rattle.turns.proofs.reply_of.Statement.{statement}
 use Rattle.turns.proofs.reply_of.Tie as tie
 
+with-counts-requires : tie.Need-with-counts-requires
+with-counts-requires c κs = search needs
+
 replied-requires : tie.Need-replied-requires
 replied-requires c κs = search needs
 
@@ -12,4 +15,4 @@ returns : tie.Need-returns
 returns c = search (needs, reply-is)
 
 pub reply-of-spec : {M : Type 1} → statement M
-reply-of-spec = tie.close (tie.spec replied-requires returns)
+reply-of-spec = tie.close (tie.spec with-counts-requires replied-requires returns)
