@@ -10,7 +10,7 @@ use lib.ListN.{length}
 use borrow.Author.Tests.{ne-eqb, eqb-true, le-leb, lt-leb, leb-true}
 use Rattle.words.specs.Choice.{pick, both, every}
 use Rattle.words.specs.Digits.{depths}
-use Rattle.words.proofs.Choice.{pick-both, pick-true, pick-false, both-left, both-right, both-true}
+use Rattle.words.proofs.Choice.{pick-both, pick-true, pick-false, both-left, both-right, both-true, true-false}
 use Rattle.settings.specs.Sizes.{maxMoves, within, Sized}
 use Rattle.settings.specs.declared.Settings.{Settings}
 use Rattle.settings.proofs.Laws.{within-true}
@@ -45,9 +45,6 @@ unfolding pick
 pick-yes true x e = (refl, e)
 pick-yes false x e = let z : false ≡ true = e in (e, cc)
 
-false-true : false ≡ true → ⊥
-false-true q = let z : _≡_ {A = ℕ} 0 1 = cc in omega arith
-
 -- a record that fits with a kind from 11 on
 module _ (w : ℕ) (s : Settings) (l : List ℕ) (i : ℕ) (f : fits w s (load w l i) ≡ true) (low : 11 ≤ kindNo (headAt w l i .kind)) where
   fits-moving : (kindNo (headAt w l i .kind) ≤ 22) × (movingFits w s (kindNo (headAt w l i .kind)) (firstMoves w l i (movesAt w l i)) ≡ true)
@@ -73,7 +70,7 @@ module _ (w : ℕ) (s : Settings) (l : List ℕ) (i : ℕ) (f : fits w s (load w
 
   first-fits : (n : ℕ) → movesFit s (kindNo (headAt w l i .kind)) (firstMoves w l i n) ≡ true → (1 ≤ n) × (innerFits s (kindNo (headAt w l i .kind)) (moveAt w l i (n - 1) .count) ≡ true)
   unfolding firstMoves movesFit
-  first-fits zero e = absurd (false-true e)
+  first-fits zero e = absurd (true-false (sym e))
   first-fits (suc n) e =
       let z : suc n - 1 ≡ n = omega arith in
       (omega arith, rw z (both-left _ _ e))
