@@ -135,106 +135,69 @@ value-grows n k v h j = rw (add-one, pow-suc) (omega arith)
 pub value-small : (n k : ℕ) → n < 10 ^ k → k ≤ 4 → n ≤ 9999
 value-small n k h j = let u : 10 ^ k ≤ 10 ^ 4 = pow-le-pow-right {n = 10} (omega arith) j in omega arith
 
--- the fields of a line, and how many there are, by what lies behind each comma
-pub field-0 : (l : List ℕ) → field 0 l ≡ upTo comma l
+-- field: the first, and one more
+field-0 : (l : List ℕ) → field 0 l ≡ upTo comma l
 field-0 l = part-first comma l
 
-pub field-1 : (l : List ℕ) → field 1 l ≡ upTo comma (past comma l)
-field-1 l = part-next comma l 0 ∙ field-0 (past comma l)
+pub field-first : (l : List ℕ) (k : ℕ) {r : List ℕ} → r ≡ upTo comma l → k ≡ 0 → r ≡ field k l
+field-first l k a e = rw (a, e) (sym (field-0 l))
 
-pub field-2 : (l : List ℕ) → field 2 l ≡ upTo comma (past comma (past comma l))
-field-2 l = part-next comma l 1 ∙ field-1 (past comma l)
+pub field-next : (l : List ℕ) (k : ℕ) {r p : List ℕ} → r ≡ field (k - 1) p → p ≡ past comma l → (k ≡ 0 → ⊥) → r ≡ field k l
+field-next l zero a b h = absurd (h refl)
+field-next l (suc k) a b h =
+    let e : suc k - 1 ≡ k = omega arith in
+    rw (a, b, e) (sym (part-next comma l k))
 
-pub field-3 : (l : List ℕ) → field 3 l ≡ upTo comma (past comma (past comma (past comma l)))
-field-3 l = part-next comma l 2 ∙ field-2 (past comma l)
+-- is_number_at and number_at: the field as it was cut off
+module _ (l : List ℕ) (k : ℕ) {f : List ℕ} where
+  pub number-test : {r : Bool} → r ≡ isNumber f → f ≡ field k l → r ≡ isNumber (field k l)
+  number-test a e = a ∙ ap isNumber e
 
-pub fields-two : (l : List ℕ) → eqb (fieldCount l) 2 ≡ both (has comma l) (not (has comma (past comma l)))
-fields-two l = count-more comma l 0 ∙ ap (λ (t : Bool). both (has comma l) t) (count-one comma (past comma l))
+  pub number-there : f ≡ field k l → isNumber (field k l) ≡ true → isNumber f ≡ true
+  number-there e h = ap isNumber e ∙ h
 
-fields-three :
-    (l : List ℕ)
-    → eqb (fieldCount l) 3 ≡ both (has comma l) (both (has comma (past comma l)) (not (has comma (past comma (past comma l)))))
-fields-three l = count-more comma l 1 ∙ ap (λ (t : Bool). both (has comma l) t) (fields-two (past comma l))
+  pub number-value : {r : ℕ} → r ≡ numberOf f → f ≡ field k l → r ≡ numberOf (field k l)
+  number-value a e = a ∙ ap numberOf e
 
-pub fields-four :
-    (l : List ℕ)
-    → eqb (fieldCount l) 4
-    ≡ both (has comma l) (both (has comma (past comma l)) (both (has comma (past comma (past comma l))) (not (has comma (past comma (past comma (past comma l)))))))
-fields-four l = count-more comma l 2 ∙ ap (λ (t : Bool). both (has comma l) t) (fields-three (past comma l))
-
--- two_fields, four_fields, three_numbers, three and one: their parts
+-- two_fields, four_fields, three and one: their parts
 pub two-steps :
     (l : List ℕ) {r h g : Bool} {p : List ℕ}
     → r ≡ both h (not g) → g ≡ has comma p → h ≡ has comma l → p ≡ past comma l → r ≡ eqb (fieldCount l) 2
-two-steps l a b d e = rw (a, b, d, e) (sym (fields-two l))
+two-steps l a b d e = rw (a, b, d, e) (sym (count-more comma l 0 ∙ ap (λ (t : Bool). both (has comma l) t) (count-one comma (past comma l))))
 
 pub four-steps :
-    (l : List ℕ) {r s t h₀ h₁ h₂ h₃ : Bool} {p₁ p₂ p₃ : List ℕ}
-    → r ≡ both h₀ s → s ≡ both h₁ t → t ≡ both h₂ (not h₃) → h₃ ≡ has comma p₃ → h₂ ≡ has comma p₂ → h₁ ≡ has comma p₁ → h₀ ≡ has comma l
-    → p₃ ≡ past comma p₂ → p₂ ≡ past comma p₁ → p₁ ≡ past comma l → r ≡ eqb (fieldCount l) 4
-four-steps l a b d e₃ e₂ e₁ e₀ f₃ f₂ f₁ = rw (a, b, d, e₃, e₂, e₁, e₀, f₃, f₂, f₁) (sym (fields-four l))
-
-pub numbers-steps :
-    (l : List ℕ) {r s n₁ n₂ n₃ : Bool} {q₁ q₂ q₃ p₁ p₂ p₃ : List ℕ}
-    → r ≡ both n₁ s → s ≡ both n₂ n₃ → n₃ ≡ isNumber q₃ → q₃ ≡ upTo comma p₃ → n₂ ≡ isNumber q₂ → q₂ ≡ upTo comma p₂
-    → n₁ ≡ isNumber q₁ → q₁ ≡ upTo comma p₁ → p₃ ≡ past comma p₂ → p₂ ≡ past comma p₁ → p₁ ≡ past comma l
-    → r ≡ both (isNumber (field 1 l)) (both (isNumber (field 2 l)) (isNumber (field 3 l)))
-numbers-steps l a b n₃ q₃ n₂ q₂ n₁ q₁ f₃ f₂ f₁ = simp (a, b, n₃, q₃, n₂, q₂, n₁, q₁, f₃, f₂, f₁, field-1, field-2, field-3)
+    (l : List ℕ) {r s t h₀ h₁ : Bool} {p₁ p₂ : List ℕ}
+    → r ≡ both h₀ s → s ≡ both h₁ t → t ≡ eqb (fieldCount p₂) 2 → h₁ ≡ has comma p₁ → h₀ ≡ has comma l
+    → p₂ ≡ past comma p₁ → p₁ ≡ past comma l → r ≡ eqb (fieldCount l) 4
+four-steps l a b d e₁ e₀ f₂ f₁ =
+    rw (a, b, d, e₁, e₀, f₂, f₁) (sym (count-more comma l 2 ∙ ap (λ (t : Bool). both (has comma l) t) (count-more comma (past comma l) 1)))
 
 pub three-steps :
-    (x : ℕ) (l : List ℕ) {r s t u v : Bool} {q : List ℕ}
-    → r ≡ both s t → t ≡ both u v → v ≡ both (isNumber (field 1 l)) (both (isNumber (field 2 l)) (isNumber (field 3 l))) → u ≡ isLetter x q
-    → q ≡ upTo comma l → s ≡ eqb (fieldCount l) 4 → r ≡ hasThree x l
-three-steps x l a b d e f g = simp (a, b, d, e, f, g, field-0)
+    (x : ℕ) (l : List ℕ) {r s t u v w n₁ n₂ n₃ : Bool} {q : List ℕ}
+    → r ≡ both s t → t ≡ both u v → v ≡ both n₁ w → w ≡ both n₂ n₃ → n₃ ≡ isNumber (field 3 l) → n₂ ≡ isNumber (field 2 l)
+    → n₁ ≡ isNumber (field 1 l) → u ≡ isLetter x q → q ≡ upTo comma l → s ≡ eqb (fieldCount l) 4 → r ≡ hasThree x l
+three-steps x l a b d d′ n₃ n₂ n₁ e f g = simp (a, b, d, d′, n₃, n₂, n₁, e, f, g, field-0)
 
 pub one-steps :
-    (x : ℕ) (l : List ℕ) {r s t u v : Bool} {q q₁ p₁ : List ℕ}
-    → r ≡ both s t → t ≡ both u v → v ≡ isNumber q₁ → q₁ ≡ upTo comma p₁ → u ≡ isLetter x q → q ≡ upTo comma l → s ≡ eqb (fieldCount l) 2
-    → p₁ ≡ past comma l → r ≡ hasOne x l
-one-steps x l a b d d₁ e f g p = simp (a, b, d, d₁, e, f, g, p, field-0, field-1)
+    (x : ℕ) (l : List ℕ) {r s t u v : Bool} {q : List ℕ}
+    → r ≡ both s t → t ≡ both u v → v ≡ isNumber (field 1 l) → u ≡ isLetter x q → q ≡ upTo comma l → s ≡ eqb (fieldCount l) 2 → r ≡ hasOne x l
+one-steps x l a b d e f g = simp (a, b, d, e, f, g, field-0)
 
 -- command_of: the fields of a line that reads are numbers
-pub three-1 :
-    (x : ℕ) (l : List ℕ) {t : Bool} {f p : List ℕ}
-    → f ≡ upTo comma p → t ≡ hasThree x l → t ≡ true → p ≡ past comma l → isNumber f ≡ true
-three-1 x l {t} {f} a e h b =
-    let n : isNumber (field 1 l) ≡ true = both-left _ _ (both-right _ _ (both-right _ _ (sym e ∙ h))) in
-    cc (field-1 l)
+module _ (x : ℕ) (l : List ℕ) {t : Bool} where
+  pub three-1 : t ≡ hasThree x l → t ≡ true → isNumber (field 1 l) ≡ true
+  three-1 e h = both-left _ _ (both-right _ _ (both-right _ _ (sym e ∙ h)))
 
-pub three-2 :
-    (x : ℕ) (l : List ℕ) {t : Bool} {f p q : List ℕ}
-    → f ≡ upTo comma q → t ≡ hasThree x l → t ≡ true → q ≡ past comma p → p ≡ past comma l → isNumber f ≡ true
-three-2 x l {t} {f} a e h b b′ =
-    let n : isNumber (field 2 l) ≡ true = both-left _ _ (both-right _ _ (both-right _ _ (both-right _ _ (sym e ∙ h)))) in
-    cc (field-2 l)
+  pub three-2 : t ≡ hasThree x l → t ≡ true → isNumber (field 2 l) ≡ true
+  three-2 e h = both-left _ _ (both-right _ _ (both-right _ _ (both-right _ _ (sym e ∙ h))))
 
-pub three-3 :
-    (x : ℕ) (l : List ℕ) {t : Bool} {f p q r : List ℕ}
-    → f ≡ upTo comma r → t ≡ hasThree x l → t ≡ true → r ≡ past comma q → q ≡ past comma p → p ≡ past comma l → isNumber f ≡ true
-three-3 x l {t} {f} a e h b b′ b″ =
-    let n : isNumber (field 3 l) ≡ true = both-right _ _ (both-right _ _ (both-right _ _ (both-right _ _ (sym e ∙ h)))) in
-    cc (field-3 l)
+  pub three-3 : t ≡ hasThree x l → t ≡ true → isNumber (field 3 l) ≡ true
+  three-3 e h = both-right _ _ (both-right _ _ (both-right _ _ (both-right _ _ (sym e ∙ h))))
 
-pub one-1 :
-    (x : ℕ) (l : List ℕ) {t : Bool} {f p : List ℕ}
-    → f ≡ upTo comma p → t ≡ hasOne x l → t ≡ true → p ≡ past comma l → isNumber f ≡ true
-one-1 x l {t} {f} a e h b =
-    let n : isNumber (field 1 l) ≡ true = both-right _ _ (both-right _ _ (sym e ∙ h)) in
-    cc (field-1 l)
+  pub one-1 : t ≡ hasOne x l → t ≡ true → isNumber (field 1 l) ≡ true
+  one-1 e h = both-right _ _ (both-right _ _ (sym e ∙ h))
 
 -- and its answer is the first shape that reads
-pub value-1 : (l : List ℕ) {n : ℕ} {f p : List ℕ} → n ≡ numberOf f → f ≡ upTo comma p → p ≡ past comma l → n ≡ numberOf (field 1 l)
-value-1 l a b d = cc (field-1 l)
-
-pub value-2 :
-    (l : List ℕ) {n : ℕ} {f p q : List ℕ} → n ≡ numberOf f → f ≡ upTo comma q → q ≡ past comma p → p ≡ past comma l → n ≡ numberOf (field 2 l)
-value-2 l a b d d′ = cc (field-2 l)
-
-pub value-3 :
-    (l : List ℕ) {n : ℕ} {f p q r : List ℕ}
-    → n ≡ numberOf f → f ≡ upTo comma r → r ≡ past comma q → q ≡ past comma p → p ≡ past comma l → n ≡ numberOf (field 3 l)
-value-3 l a b d d′ d″ = cc (field-3 l)
-
 module _ (l : List ℕ) where
   pub command-sizes :
       {m n k : ℕ} → hasThree 115 l ≡ true → m ≡ numberOf (field 1 l) → n ≡ numberOf (field 2 l) → k ≡ numberOf (field 3 l)

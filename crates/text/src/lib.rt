@@ -145,6 +145,17 @@ fn is_letter(f: &[u8], x: u8) -> bool
     and(f.len() == 1, byte_at(f, 0) == x)
 }
 
+// Field k of the line, from 0.
+fn field(line: &[u8], k: u32) -> &[u8]
+    ensures { λ r. ⌜ now r ≡ field k (now (line .entry)) ⌝ }
+{
+    if k == 0 {
+        up_to(line, 44)
+    } else {
+        field(past(line, 44), k - 1)
+    }
+}
+
 // The line has one comma.
 fn two_fields(line: &[u8]) -> bool
     ensures { λ r. ⌜ r ≡ eqb (fieldCount (now (line .entry))) 2 ⌝ }
@@ -159,24 +170,14 @@ fn four_fields(line: &[u8]) -> bool
 {
     let r1 = past(line, 44);
     let r2 = past(r1, 44);
-    let r3 = past(r2, 44);
-    and(
-        has(line, 44),
-        and(has(r1, 44), and(has(r2, 44), !has(r3, 44))),
-    )
+    and(has(line, 44), and(has(r1, 44), two_fields(r2)))
 }
 
-// The fields 1, 2 and 3 are numbers.
-fn three_numbers(line: &[u8]) -> bool
-    ensures { λ r. ⌜ r ≡ both (isNumber (field 1 (now (line .entry)))) (both (isNumber (field 2 (now (line .entry)))) (isNumber (field 3 (now (line .entry))))) ⌝ }
+// Field k of the line is a number.
+fn is_number_at(line: &[u8], k: u32) -> bool
+    ensures { λ r. ⌜ r ≡ isNumber (field k (now (line .entry))) ⌝ }
 {
-    let r1 = past(line, 44);
-    let r2 = past(r1, 44);
-    let r3 = past(r2, 44);
-    and(
-        is_number(up_to(r1, 44)),
-        and(is_number(up_to(r2, 44)), is_number(up_to(r3, 44))),
-    )
+    is_number(field(line, k))
 }
 
 // The line has a letter and three numbers.
@@ -185,7 +186,13 @@ fn three(line: &[u8], letter: u8) -> bool
 {
     and(
         four_fields(line),
-        and(is_letter(up_to(line, 44), letter), three_numbers(line)),
+        and(
+            is_letter(up_to(line, 44), letter),
+            and(
+                is_number_at(line, 1),
+                and(is_number_at(line, 2), is_number_at(line, 3)),
+            ),
+        ),
     )
 }
 
@@ -193,34 +200,30 @@ fn three(line: &[u8], letter: u8) -> bool
 fn one(line: &[u8], letter: u8) -> bool
     ensures { λ r. ⌜ r ≡ hasOne letter (now (line .entry)) ⌝ }
 {
-    let r1 = past(line, 44);
     and(
         two_fields(line),
-        and(is_letter(up_to(line, 44), letter), is_number(up_to(r1, 44))),
+        and(is_letter(up_to(line, 44), letter), is_number_at(line, 1)),
     )
+}
+
+// The number in field k of the line.
+fn number_at(line: &[u8], k: u32) -> u32
+    requires { ⌜ isNumber (field k (now line)) ≡ true ⌝ }
+    ensures { λ r. ⌜ r ≡ numberOf (field k (now (line .entry))) ⌝ }
+{
+    number_of(field(line, k))
 }
 
 // What a line asks for.
 pub fn command_of(line: &[u8]) -> Command
     ensures { λ r. ⌜ r ≡ command (now (line .entry)) ⌝ }
 {
-    let r1 = past(line, 44);
-    let r2 = past(r1, 44);
-    let r3 = past(r2, 44);
     if three(line, 115) {
-        Command::Sizes(
-            number_of(up_to(r1, 44)),
-            number_of(up_to(r2, 44)),
-            number_of(up_to(r3, 44)),
-        )
+        Command::Sizes(number_at(line, 1), number_at(line, 2), number_at(line, 3))
     } else if three(line, 99) {
-        Command::Starts(
-            number_of(up_to(r1, 44)),
-            number_of(up_to(r2, 44)),
-            number_of(up_to(r3, 44)),
-        )
+        Command::Starts(number_at(line, 1), number_at(line, 2), number_at(line, 3))
     } else if one(line, 116) {
-        Command::Turns(number_of(up_to(r1, 44)))
+        Command::Turns(number_at(line, 1))
     } else {
         Command::Unread
     }

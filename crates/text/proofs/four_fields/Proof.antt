@@ -11,29 +11,20 @@ past-requires c κs = search needs
 past-requires-2 : tie.Need-past-requires-2
 past-requires-2 c κs = search needs
 
-past-requires-3 : tie.Need-past-requires-3
-past-requires-3 c κs = search needs
-
 has-requires : tie.Need-has-requires
 has-requires c κs = search needs
 
 has-requires-2 : tie.Need-has-requires-2
 has-requires-2 c κs = search needs
 
-has-requires-3 : tie.Need-has-requires-3
-has-requires-3 c κs = search needs
-
-has-requires-4 : tie.Need-has-requires-4
-has-requires-4 c κs = search needs
+two-fields-requires : tie.Need-two-fields-requires
+two-fields-requires c κs = search needs
 
 and-requires : tie.Need-and-requires
 and-requires c κs = search needs
 
 and-requires-2 : tie.Need-and-requires-2
 and-requires-2 c κs = search needs
-
-and-requires-3 : tie.Need-and-requires-3
-and-requires-3 c κs = search needs
 
 returns : tie.Need-returns
 returns c = search (needs, four-steps)
@@ -44,12 +35,9 @@ four-fields-spec =
     (tie.spec
     past-requires
     past-requires-2
-    past-requires-3
     has-requires
     has-requires-2
-    has-requires-3
-    has-requires-4
+    two-fields-requires
     and-requires
     and-requires-2
-    and-requires-3
     returns)

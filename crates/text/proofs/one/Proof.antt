@@ -5,9 +5,6 @@ use Rattle.text.proofs.Ways.{one-steps}
 use Rattle.text.proofs.one.Statement.{statement}
 use Rattle.text.proofs.one.Tie as tie
 
-past-requires : tie.Need-past-requires
-past-requires c κs = search needs
-
 two-fields-requires : tie.Need-two-fields-requires
 two-fields-requires c κs = search needs
 
@@ -17,11 +14,8 @@ up-to-requires c κs = search needs
 is-letter-requires : tie.Need-is-letter-requires
 is-letter-requires c κs = search needs
 
-up-to-requires-2 : tie.Need-up-to-requires-2
-up-to-requires-2 c κs = search needs
-
-is-number-requires : tie.Need-is-number-requires
-is-number-requires c κs = search needs
+is-number-at-requires : tie.Need-is-number-at-requires
+is-number-at-requires c κs = search needs
 
 and-requires : tie.Need-and-requires
 and-requires c κs = search needs
@@ -36,12 +30,10 @@ pub one-spec : {M : Type 1} → statement M
 one-spec =
     tie.close
     (tie.spec
-    past-requires
     two-fields-requires
     up-to-requires
     is-letter-requires
-    up-to-requires-2
-    is-number-requires
+    is-number-at-requires
     and-requires
     and-requires-2
     returns)

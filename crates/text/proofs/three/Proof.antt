@@ -14,14 +14,26 @@ up-to-requires c κs = search needs
 is-letter-requires : tie.Need-is-letter-requires
 is-letter-requires c κs = search needs
 
-three-numbers-requires : tie.Need-three-numbers-requires
-three-numbers-requires c κs = search needs
+is-number-at-requires : tie.Need-is-number-at-requires
+is-number-at-requires c κs = search needs
+
+is-number-at-requires-2 : tie.Need-is-number-at-requires-2
+is-number-at-requires-2 c κs = search needs
+
+is-number-at-requires-3 : tie.Need-is-number-at-requires-3
+is-number-at-requires-3 c κs = search needs
 
 and-requires : tie.Need-and-requires
 and-requires c κs = search needs
 
 and-requires-2 : tie.Need-and-requires-2
 and-requires-2 c κs = search needs
+
+and-requires-3 : tie.Need-and-requires-3
+and-requires-3 c κs = search needs
+
+and-requires-4 : tie.Need-and-requires-4
+and-requires-4 c κs = search needs
 
 returns : tie.Need-returns
 returns c = search (needs, three-steps)
@@ -33,7 +45,11 @@ three-spec =
     four-fields-requires
     up-to-requires
     is-letter-requires
-    three-numbers-requires
+    is-number-at-requires
+    is-number-at-requires-2
+    is-number-at-requires-3
     and-requires
     and-requires-2
+    and-requires-3
+    and-requires-4
     returns)
