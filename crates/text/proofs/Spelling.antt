@@ -17,10 +17,6 @@ use Rattle.text.specs.Printing.{decimal, decimalIn, callBytes, bytesOf}
 use Rattle.text.specs.declared.Printed.{Printed}
 use Rattle.text.specs.declared.Printed.the-variants.{Nothing, Header, New, Found, Full, Refused, End}
 
--- put_byte
-pub byte-put : (o : List ℕ) (at b : ℕ) → at + 1 ≤ length o → take (at + 1) (set o at b) ≡ take at o ++ (b ∷ [])
-byte-put o at b h = rw add-one (take-suc-set o at b (omega arith))
-
 -- put_bytes: no byte yet, one byte more, and all
 pub bytes-none : (o src : List ℕ) (at : ℕ) → take (at + 0) o ≡ take at o ++ take 0 src
 bytes-none o src at = simp (add-zero, append-nil)
@@ -48,63 +44,76 @@ pub digits-none : (n : ℕ) (d : List ℕ) → length d ≡ 5 → decimalIn 4 n 
 digits-none n d h = let j : length d ≤ 5 = omega arith in rw (drop-of-length-le d j, append-nil)
 
 pub digits-more :
-    (i m : ℕ) (d : List ℕ) {w : List ℕ}
-    → decimalIn i m ++ drop (i + 1) d ≡ w → 0 < i → 10 ≤ m → i ≤ 4 → length d ≡ 5
-    → decimalIn (i - 1) (m / 10) ++ drop (i - 1 + 1) (set d i (48 + m % 10)) ≡ w
+    (i m : ℕ) (d : List ℕ) {w : List ℕ} {v : ℕ}
+    → decimalIn i m ++ drop (i + 1) d ≡ w → v ≡ 48 + m % 10 → 0 < i → 10 ≤ m → i ≤ 4 → length d ≡ 5
+    → decimalIn (i - 1) (m / 10) ++ drop (i - 1 + 1) (set d i v) ≡ w
 unfolding decimalIn pick
-digits-more zero m d a h j k f = absurd (omega arith)
-digits-more (suc i) m d a h j k f =
+digits-more zero m d a b h j k f = absurd (omega arith)
+digits-more (suc i) m d a b h j k f =
     let e : suc i - 1 ≡ i = omega arith in
     let u : suc i < length d = omega arith in
-    rw (e, add-one, drop-set d (suc i) (48 + m % 10) u) (simp (le-ltb m 10 j, add-one, append-snoc) at a)
+    rw (b, e, add-one, drop-set d (suc i) (48 + m % 10) u) (simp (le-ltb m 10 j, add-one, append-snoc) at a)
 
 pub digits-one :
-    (i m : ℕ) (d : List ℕ) {w : List ℕ}
-    → decimalIn i m ++ drop (i + 1) d ≡ w → 0 < i → m < 10 → i ≤ 4 → length d ≡ 5 → drop i (set d i (48 + m)) ≡ w
+    (i m : ℕ) (d : List ℕ) {w : List ℕ} {v : ℕ}
+    → decimalIn i m ++ drop (i + 1) d ≡ w → v ≡ 48 + m % 10 → 0 < i → m < 10 → i ≤ 4 → length d ≡ 5 → drop i (set d i v) ≡ w
 unfolding decimalIn pick
-digits-one zero m d a h j k f = absurd (omega arith)
-digits-one (suc i) m d a h j k f =
+digits-one zero m d a b h j k f = absurd (omega arith)
+digits-one (suc i) m d {w} {v} a b h j k f =
     let u : suc i < length d = omega arith in
-    rw (drop-set d (suc i) (48 + m) u) (simp (lt-ltb m 10 j, add-one) at a)
+    let e : v ≡ 48 + m = omega arith in
+    rw (e, drop-set d (suc i) (48 + m) u) (simp (lt-ltb m 10 j, add-one) at a)
 
 pub digits-last :
-    (i m : ℕ) (d : List ℕ) {w : List ℕ} → decimalIn i m ++ drop (i + 1) d ≡ w → i ≤ 0 → length d ≡ 5 → set d 0 (48 + m % 10) ≡ w
+    (i m : ℕ) (d : List ℕ) {w : List ℕ} {v : ℕ}
+    → decimalIn i m ++ drop (i + 1) d ≡ w → v ≡ 48 + m % 10 → i ≤ 0 → length d ≡ 5 → set d 0 v ≡ w
 unfolding decimalIn
-digits-last zero m d a h f = let u : 0 < length d = omega arith in drop-set d 0 (48 + m % 10) u ∙ (rw zero-add at a)
-digits-last (suc i) m d a h f = absurd (omega arith)
+digits-last zero m d a b h f =
+    let u : 0 < length d = omega arith in
+    rw b (drop-set d 0 (48 + m % 10) u ∙ (rw zero-add at a))
+digits-last (suc i) m d a b h f = absurd (omega arith)
 
 -- put_decimal: the digits from the first on are all of the number
-pub decimal-put :
-    (at n i : ℕ) (o o′ d : List ℕ) {r : ℕ}
-    → r ≡ at + length (take (5 - i) (drop i d)) → take r o′ ≡ take at o ++ take (5 - i) (drop i d) → drop i d ≡ decimal n → length d ≡ 5
-    → (r ≡ at + length (decimal n)) × (r ≤ at + 5) × (take r o′ ≡ take at o ++ decimal n)
-decimal-put at n i o o′ d {r} a b e f =
+all-digits : (i : ℕ) (d : List ℕ) → length d ≡ 5 → take (5 - i) (drop i d) ≡ drop i d
+all-digits i d f =
     let h : length (drop i d) ≡ 5 - i = rw length-drop (omega arith) in
-    let s : take (5 - i) (drop i d) ≡ drop i d = take-all (5 - i) (drop i d) (omega arith) in
-    let z : r ≡ at + length (drop i d) = rw s at a in
-    (z ∙ ap (λ (l : List ℕ). at + length l) e, omega arith, b ∙ ap (λ (l : List ℕ). take at o ++ l) (s ∙ e))
+    take-all (5 - i) (drop i d) (omega arith)
+
+pub decimal-put :
+    (at n i r : ℕ) (o o′ d : List ℕ)
+    → take r o′ ≡ take at o ++ take (5 - i) (drop i d) → drop i d ≡ decimal n → length d ≡ 5 → take r o′ ≡ take at o ++ decimal n
+decimal-put at n i r o o′ d b e f = b ∙ ap (λ (l : List ℕ). take at o ++ l) (all-digits i d f ∙ e)
+
+pub decimal-end : (at i : ℕ) (d : List ℕ) {r : ℕ} → r ≡ at + length (take (5 - i) (drop i d)) → length d ≡ 5 → r ≤ at + 5
+decimal-end at i d {r} a f =
+    let h : length (drop i d) ≡ 5 - i = rw length-drop (omega arith) in
+    let z : r ≡ at + length (drop i d) = rw (all-digits i d f) at a in
+    omega arith
+
+-- put_number: one byte behind it
+pub number-put :
+    (o l m : List ℕ) (at k b : ℕ) → take k o ≡ l ++ m → k ≤ at + 5 → at + 6 ≤ 64 → length o ≡ 64 → take (k + 1) (set o k b) ≡ l ++ m ++ (b ∷ [])
+number-put o l m at k b a h i j = rw add-one (take-suc-set o k b (omega arith) ∙ (rw (a, append-assoc) refl))
 
 -- put_call, put_row, put_full and put_pair: their pieces
 pub call-steps :
-    (i p : ℕ) {v w x y z : List ℕ}
-    → z ≡ y ++ decimal (p % 4096) → y ≡ x ++ (comma ∷ []) → x ≡ w ++ decimal (p / 4096) → w ≡ v ++ (comma ∷ []) → v ≡ decimal i
-    → z ≡ callBytes i p
+    (i p : ℕ) {x y z : List ℕ}
+    → z ≡ y ++ decimal (p % 4096) → y ≡ x ++ decimal (p / 4096) ++ (comma ∷ []) → x ≡ decimal i ++ (comma ∷ []) → z ≡ callBytes i p
 unfolding callBytes
-call-steps i p a b d e f = simp (a, b, d, e, f)
+call-steps i p a b d = simp (a, b, d)
 
 pub row-steps :
-    (s n : List ℕ) {l w x y z : List ℕ} → z ≡ y ++ (lineEnd ∷ []) → y ≡ x ++ n → x ≡ w ++ s → w ≡ l → z ≡ l ++ s ++ n ++ (lineEnd ∷ [])
-row-steps s n a b d e = simp (a, b, d, e)
+    (s n : List ℕ) {l x y z : List ℕ} → z ≡ y ++ n ++ (lineEnd ∷ []) → y ≡ x ++ s → x ≡ l → z ≡ l ++ s ++ n ++ (lineEnd ∷ [])
+row-steps s n a b d = simp (a, b, d)
 
 pub pair-steps :
-    (s m n : List ℕ) {v w x y z : List ℕ}
-    → z ≡ y ++ (lineEnd ∷ []) → y ≡ x ++ n → x ≡ w ++ (comma ∷ []) → w ≡ v ++ m → v ≡ s → z ≡ s ++ m ++ (comma ∷ []) ++ n ++ (lineEnd ∷ [])
-pair-steps s m n a b d e f = simp (a, b, d, e, f)
+    (s m n : List ℕ) {x y z : List ℕ}
+    → z ≡ y ++ n ++ (lineEnd ∷ []) → y ≡ x ++ m ++ (comma ∷ []) → x ≡ s → z ≡ s ++ m ++ (comma ∷ []) ++ n ++ (lineEnd ∷ [])
+pair-steps s m n a b d = simp (a, b, d)
 
-pub full-steps :
-    (i p : ℕ) {x y z : List ℕ} → z ≡ y ++ (lineEnd ∷ []) → y ≡ x ++ ascii ",full,-" → x ≡ callBytes i p → z ≡ bytesOf (Full i p)
+pub full-steps : (i p : ℕ) {y z : List ℕ} → z ≡ y ++ (ascii ",full,-" ++ (lineEnd ∷ [])) → y ≡ callBytes i p → z ≡ bytesOf (Full i p)
 unfolding bytesOf
-full-steps i p a b d = simp (a, b, d)
+full-steps i p a b = simp (a, b, append-assoc)
 
 -- spell: the bytes of the variant that it met
 pub told : {p q : Printed} {l : List ℕ} → p ≡ q → l ≡ bytesOf q → l ≡ bytesOf p

@@ -3,7 +3,7 @@
 ghost use mathlib.Core.Path.{_≡_};
 ghost use mathlib.Core.Bool.{true, not};
 ghost use mathlib.Core.List.{[], _∷_, _++_};
-ghost use Prim.Native.Nat.{_+_, _-_, _≤_};
+ghost use Prim.Native.Nat.{_+_, _-_, _%_, _≤_};
 ghost use lib.Dec.{eqb};
 ghost use lib.ListN.{length, take, drop, getD};
 ghost use Rattle.words.specs.Choice.{pick, both, every};
@@ -229,15 +229,6 @@ pub fn command_of(line: &[u8]) -> Command
     }
 }
 
-// The byte b is put behind the first `at` of out.
-fn put_byte(out: &mut [u8], at: usize, b: u8) -> usize
-    requires { ⌜ at + 1 ≤ length (now out) ⌝ }
-    ensures { λ r. ⌜ (r ≡ at + 1) × (take r (now (out .exit)) ≡ take at (now (out .entry)) ++ (b ∷ [])) ⌝ }
-{
-    out[at] = b;
-    at + 1
-}
-
 // The bytes of src are put behind the first `at` of out.
 fn put_bytes(out: &mut [u8], at: usize, src: &[u8]) -> usize
     requires { ⌜ at + length (now src) ≤ length (now out) ⌝ }
@@ -251,6 +242,13 @@ fn put_bytes(out: &mut [u8], at: usize, src: &[u8]) -> usize
     at + k
 }
 
+// The byte of n's last digit.
+fn last_digit(n: u32) -> u8
+    ensures { λ r. ⌜ r ≡ 48 + n % 10 ⌝ }
+{
+    48 + (n % 10) as u8
+}
+
 // The digits of n are written to the end of d, the last one first, and the place of the first is handed back.
 fn digits(d: &mut [u8], n: u32) -> usize
     requires { ⌜ length (now d) ≡ 5 ⌝ }
@@ -259,73 +257,72 @@ fn digits(d: &mut [u8], n: u32) -> usize
     let mut i = 4;
     let mut m = n;
     while 0 < i {
+        d[i] = last_digit(m);
         if m < 10 {
-            d[i] = 48 + m as u8;
             return i;
         }
-        d[i] = 48 + (m % 10) as u8;
         m = m / 10;
         i -= 1;
     }
-    d[0] = 48 + (m % 10) as u8;
+    d[0] = last_digit(m);
     0
 }
 
 // The last five digits of a number are put behind the first `at` of out.
-fn put_decimal(out: &mut [u8], at: usize, n: u32) -> usize
-    requires { ⌜ at + 5 ≤ length (now out) ⌝ }
-    ensures { λ r. ⌜ (r ≡ at + length (decimal n)) × (r ≤ at + 5) × (take r (now (out .exit)) ≡ take at (now (out .entry)) ++ decimal n) ⌝ }
+fn put_decimal(out: &mut [u8; 64], at: usize, n: u32) -> usize
+    requires { ⌜ at + 5 ≤ 64 ⌝ }
+    ensures { λ r. ⌜ (r ≤ at + 5) × (take r (now (out .exit)) ≡ take at (now (out .entry)) ++ decimal n) × (length (now (out .exit)) ≡ 64) ⌝ }
 {
     let mut d = [0u8; 5];
     let i = digits(&mut d, n);
     put_bytes(out, at, &d[i..])
 }
 
+// A number, and behind it the byte b.
+fn put_number(out: &mut [u8; 64], at: usize, n: u32, b: u8) -> usize
+    requires { ⌜ at + 6 ≤ 64 ⌝ }
+    ensures { λ r. ⌜ (r ≤ at + 6) × (take r (now (out .exit)) ≡ take at (now (out .entry)) ++ decimal n ++ (b ∷ [])) ⌝ }
+{
+    let k = put_decimal(out, at, n);
+    out[k] = b;
+    k + 1
+}
+
 // The fields before an answer: worker, row, column.
-fn put_call(out: &mut [u8], worker: u32, pixel: u32) -> usize
-    requires { ⌜ 17 ≤ length (now out) ⌝ }
+fn put_call(out: &mut [u8; 64], worker: u32, pixel: u32) -> usize
     ensures { λ r. ⌜ (r ≤ 17) × (take r (now (out .exit)) ≡ callBytes worker pixel) ⌝ }
 {
-    let a = put_decimal(out, 0, worker);
-    let b = put_byte(out, a, 44);
-    let c = put_decimal(out, b, pixel / 4096);
-    let d = put_byte(out, c, 44);
-    put_decimal(out, d, pixel % 4096)
+    let a = put_number(out, 0, worker, 44);
+    let b = put_number(out, a, pixel / 4096, 44);
+    put_decimal(out, b, pixel % 4096)
 }
 
 // The row of a call that ended with a node.
-fn put_row(out: &mut [u8], worker: u32, pixel: u32, answer: &[u8], node: u32) -> usize
-    requires { ⌜ 64 ≤ length (now out) ⌝ }
+fn put_row(out: &mut [u8; 64], worker: u32, pixel: u32, answer: &[u8], node: u32) -> usize
     requires { ⌜ length (now answer) ≤ 16 ⌝ }
     ensures { λ r. ⌜ take r (now (out .exit)) ≡ callBytes worker pixel ++ now (answer .entry) ++ decimal node ++ (lineEnd ∷ []) ⌝ }
 {
     let a = put_call(out, worker, pixel);
     let b = put_bytes(out, a, answer);
-    let c = put_decimal(out, b, node);
-    put_byte(out, c, 10)
+    put_number(out, b, node, 10)
 }
 
 // The row of a call that ended full.
-fn put_full(out: &mut [u8], worker: u32, pixel: u32) -> usize
-    requires { ⌜ 64 ≤ length (now out) ⌝ }
+fn put_full(out: &mut [u8; 64], worker: u32, pixel: u32) -> usize
     ensures { λ r. ⌜ take r (now (out .exit)) ≡ bytesOf (Printed.Full worker pixel) ⌝ }
 {
     let a = put_call(out, worker, pixel);
-    let b = put_bytes(out, a, b",full,-");
-    put_byte(out, b, 10)
+    put_bytes(out, a, b",full,-\n")
 }
 
 // A word with a comma behind it, and two numbers.
-fn put_pair(out: &mut [u8], word: &[u8], m: u32, n: u32) -> usize
-    requires { ⌜ 64 ≤ length (now out) ⌝ }
+fn put_pair(out: &mut [u8; 64], word: &[u8], m: u32, n: u32) -> usize
     requires { ⌜ length (now word) ≤ 16 ⌝ }
     ensures { λ r. ⌜ take r (now (out .exit)) ≡ now (word .entry) ++ decimal m ++ (comma ∷ []) ++ decimal n ++ (lineEnd ∷ []) ⌝ }
 {
     let a = put_bytes(out, 0, word);
-    let b = put_decimal(out, a, m);
-    let c = put_byte(out, b, 44);
-    let d = put_decimal(out, c, n);
-    put_byte(out, d, 10)
+    let b = put_number(out, a, m, 44);
+    put_number(out, b, n, 10)
 }
 
 // The bytes of what is printed are put at the start of out.

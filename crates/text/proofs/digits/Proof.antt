@@ -20,11 +20,8 @@ abbrev μ-loop : tie.MeasureT-loop
 loop-holds : tie.Need-loop-holds Inv-loop μ-loop
 loop-holds c = search (needs, digits-none)
 
-cast-d : tie.Need-cast-d Inv-loop μ-loop
-cast-d c = search needs
-
-add-d : tie.Need-add-d Inv-loop μ-loop
-add-d c = search needs
+last-digit-requires : tie.Need-last-digit-requires Inv-loop μ-loop
+last-digit-requires c κs = search needs
 
 slice-write-d : tie.Need-slice-write-d Inv-loop μ-loop
 slice-write-d c = search needs
@@ -35,15 +32,6 @@ same-length c = simp length-set (omega arith)
 returns : tie.Need-returns Inv-loop μ-loop
 returns c = search (needs, digits-one)
 
-cast-d-2 : tie.Need-cast-d-2 Inv-loop μ-loop
-cast-d-2 c = search needs
-
-add-d-2 : tie.Need-add-d-2 Inv-loop μ-loop
-add-d-2 c = search needs
-
-slice-write-d-2 : tie.Need-slice-write-d-2 Inv-loop μ-loop
-slice-write-d-2 c = search needs
-
 sub-i : tie.Need-sub-i Inv-loop μ-loop
 sub-i c = search needs
 
@@ -53,14 +41,11 @@ loop-less c = search needs
 loop-again : tie.Need-loop-again Inv-loop μ-loop
 loop-again c = search (needs, digits-more, length-set)
 
-cast-d-3 : tie.Need-cast-d-3 Inv-loop μ-loop
-cast-d-3 c = search needs
+last-digit-requires-2 : tie.Need-last-digit-requires-2 Inv-loop μ-loop
+last-digit-requires-2 c κs = search needs
 
-add-d-3 : tie.Need-add-d-3 Inv-loop μ-loop
-add-d-3 c = search needs
-
-slice-write-d-3 : tie.Need-slice-write-d-3 Inv-loop μ-loop
-slice-write-d-3 c = search needs
+slice-write-d-2 : tie.Need-slice-write-d-2 Inv-loop μ-loop
+slice-write-d-2 c = search needs
 
 same-length-2 : tie.Need-same-length-2 Inv-loop μ-loop
 same-length-2 c = simp length-set (omega arith)
@@ -75,19 +60,14 @@ digits-spec =
     Inv-loop
     μ-loop
     loop-holds
-    cast-d
-    add-d
+    last-digit-requires
     slice-write-d
     same-length
     returns
-    cast-d-2
-    add-d-2
-    slice-write-d-2
     sub-i
     loop-less
     loop-again
-    cast-d-3
-    add-d-3
-    slice-write-d-3
+    last-digit-requires-2
+    slice-write-d-2
     same-length-2
     returns-2)

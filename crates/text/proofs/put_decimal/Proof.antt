@@ -1,7 +1,7 @@
 -- `text::put_decimal` meets its contract.
 -- Relies on the laws of the digits.
 use borrow.Author.Needs.{needs}
-use Rattle.text.proofs.Spelling.{decimal-put}
+use Rattle.text.proofs.Spelling.{decimal-put, decimal-end}
 use Rattle.text.proofs.put_decimal.Statement.{statement}
 use Rattle.text.proofs.put_decimal.Tie as tie
 
@@ -23,14 +23,8 @@ part-put-bytes-end c = search needs
 put-bytes-requires : tie.Need-put-bytes-requires
 put-bytes-requires c κs = search needs
 
-same-length : tie.Need-same-length
-same-length c = search needs
-
 returns : tie.Need-returns
-returns c =
-    let p = c .before .before .put-bytes in
-    let g = c .before .before .before .before .before .before .before .digits in
-    decimal-put _ _ (g .result) _ _ (g .last .0) (p .ensures .0) (p .ensures .1) (g .ensures .1) (g .kept .0)
+returns c = search (needs, decimal-put, decimal-end)
 
 pub put-decimal-spec : {M : Type 1} → statement M
 put-decimal-spec =
@@ -42,5 +36,4 @@ put-decimal-spec =
     part-put-bytes-start
     part-put-bytes-end
     put-bytes-requires
-    same-length
     returns)

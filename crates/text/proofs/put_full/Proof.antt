@@ -15,27 +15,10 @@ slice-aggregate-put-bytes c = search needs
 put-bytes-requires : tie.Need-put-bytes-requires
 put-bytes-requires c κs = search needs
 
-put-byte-requires : tie.Need-put-byte-requires
-put-byte-requires c κs = search needs
-
-same-length : tie.Need-same-length
-same-length c = search needs
-
 returns : tie.Need-returns
 unfolding ascii
-returns c =
-    let z = c .before .before .put-byte in
-    let y = c .before .before .before .before .before .before .put-bytes in
-    let x = c .before .before .before .before .before .before .before .before .before .before .before .put-call in
-    full-steps _ _ (z .ensures .1) (y .ensures .1) (x .ensures .1)
+returns c = full-steps _ _ (c .put-bytes .ensures .1) (c .before .before .before .put-call .ensures .1)
 
 pub put-full-spec : {M : Type 1} → statement M
 put-full-spec =
-    tie.close
-    (tie.spec
-    put-call-requires
-    slice-aggregate-put-bytes
-    put-bytes-requires
-    put-byte-requires
-    same-length
-    returns)
+    tie.close (tie.spec put-call-requires slice-aggregate-put-bytes put-bytes-requires returns)
