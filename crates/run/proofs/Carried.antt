@@ -2,9 +2,11 @@
 -- Relies on nothing.
 use mathlib.Core.Path.{_≡_}
 use mathlib.Core.Bool.{true, false}
-use mathlib.Core.List.{List}
+use mathlib.Core.List.{List, [], _∷_}
 use Prim.Native.Nat.{ℕ}
 use lib.Dec.{eqb, leb}
+use denote.Enum.Declared.{tagOf}
+use types.Run.{OneOf, miss}
 use Rattle.words.specs.Choice.{pick}
 use Rattle.settings.specs.Sizes.{fresh}
 use Rattle.settings.specs.declared.Settings.{Settings}
@@ -16,9 +18,9 @@ use Rattle.record.specs.declared.Reply.{Reply}
 use Rattle.record.specs.Layout.{load, headAt}
 use Rattle.rules.specs.Operations.{Result, result, reply, refused, opening, start, turn}
 use Rattle.rules.specs.Lists.{State, state}
-use Rattle.text.specs.Commands.{command}
 use Rattle.text.specs.declared.Command.{Command}
 use Rattle.text.specs.declared.Command.the-variants.{Sizes, Starts, Turns, Unread}
+use Rattle.text.proofs.Command.{the-type}
 use Rattle.text.specs.declared.Printed.{Printed}
 use Rattle.text.specs.declared.Printed.the-variants.{Nothing, Refused}
 use Rattle.run.specs.Program.{Line, line, startLine, turnPrints, turnLine, carried, firstLine}
@@ -44,21 +46,21 @@ unfolding turnLine
 turn-way n i w l e f g = simp (e, g, ← f)
 
 module _ (n : ℕ) (s : Settings) (a : Areas) (c : Command) where
-  pub carried-sizes :
-      (workers limit nodes : ℕ) {p : Printed} {t : Settings}
-      → p ≡ Refused n 10 → t ≡ s → c ≡ Sizes workers limit nodes → line p (state t a) ≡ carried n c (state s a)
-  unfolding carried
-  carried-sizes workers limit nodes e f g = simp (e, f, g)
-
   pub carried-start :
       {i row column : ℕ} {x : Line}
       → x ≡ startLine n (start 3 s i row column a) → c ≡ Starts i row column → x ≡ carried n c (state s a)
   unfolding carried
   carried-start e g = simp (g, e)
 
-  pub carried-unread : {p : Printed} {t : Settings} → p ≡ Refused n 10 → t ≡ s → c ≡ Unread → line p (state t a) ≡ carried n c (state s a)
-  unfolding carried
-  carried-unread e f g = simp (e, f, g)
+-- any other line does not read
+pub carried-other :
+    (n : ℕ) (s : Settings) (a : Areas) (c : Command) {p : Printed} {t : Settings}
+    → p ≡ Refused n 10 → t ≡ s → OneOf (0 ∷ 3 ∷ []) (tagOf the-type c) → line p (state t a) ≡ carried n c (state s a)
+unfolding carried
+carried-other n s a (Sizes workers limit nodes) e f k = simp (e, f)
+carried-other n s a (Starts i row column) e f k = absurd (miss (0 ∷ 3 ∷ []) 1 tt k)
+carried-other n s a (Turns i) e f k = absurd (miss (0 ∷ 3 ∷ []) 2 tt k)
+carried-other n s a Unread e f k = simp (e, f)
 
 pub carried-turn :
     (n : ℕ) (s : Settings) (nodes levels workers : List ℕ) (c : Command) {i : ℕ} {x : Line}
@@ -87,23 +89,15 @@ module _ (c : Command) (a : Areas) where
   unfolding firstLine fresh
   first-sizes e f g = simp (g, e, f)
 
-  pub first-start :
-      (i row column : ℕ) {r : Reply} → r ≡ reply 10 answer.Nothing 0 (fresh 0 0 0) → c ≡ Starts i row column → result r a ≡ firstLine c a
-  unfolding firstLine
-  first-start i row column e g = simp (g, e)
+pub first-other :
+    (c : Command) (a : Areas) {r : Reply}
+    → r ≡ reply 10 answer.Nothing 0 (fresh 0 0 0) → OneOf (1 ∷ 2 ∷ 3 ∷ []) (tagOf the-type c) → result r a ≡ firstLine c a
+unfolding firstLine
+first-other (Sizes workers limit nodes) a e k = absurd (miss (1 ∷ 2 ∷ 3 ∷ []) 0 tt k)
+first-other (Starts i row column) a e k = simp e
+first-other (Turns i) a e k = simp e
+first-other Unread a e k = simp e
 
-  pub first-turn : (i : ℕ) {r : Reply} → r ≡ reply 10 answer.Nothing 0 (fresh 0 0 0) → c ≡ Turns i → result r a ≡ firstLine c a
-  unfolding firstLine
-  first-turn i e g = simp (g, e)
-
-  pub first-unread : {r : Reply} → r ≡ reply 10 answer.Nothing 0 (fresh 0 0 0) → c ≡ Unread → result r a ≡ firstLine c a
-  unfolding firstLine
-  first-unread e g = simp (g, e)
-
--- a line as its bytes
-module _ (q : List ℕ) where
-  pub carried-read : (n : ℕ) (x : State) {c : Command} {y : Line} → y ≡ carried n c x → c ≡ command q → y ≡ carried n (command q) x
-  carried-read n x e f = simp (e, f)
-
-  pub first-read : (a : Areas) {c : Command} {x : Result} → x ≡ firstLine c a → c ≡ command q → x ≡ firstLine (command q) a
-  first-read a e f = simp (e, f)
+-- the reply to a first line that does not read
+pub unread-way : {r : Reply} {s : Settings} → r ≡ reply 10 answer.Nothing 0 s → s ≡ fresh 0 0 0 → r ≡ reply 10 answer.Nothing 0 (fresh 0 0 0)
+unread-way e f = simp (e, f)

@@ -20,6 +20,7 @@ use Rattle.rules.specs.Operations.{result}
 use Rattle.rules.specs.Lists.{State, state}
 use Rattle.text.specs.Parts.{split}
 use Rattle.text.specs.Commands.{command}
+use Rattle.text.specs.declared.Command.{Command}
 use Rattle.text.specs.Cut.{upTo, past, has}
 use Rattle.text.specs.declared.Printed.{Printed}
 use Rattle.text.specs.declared.Printed.the-variants.{Nothing, Header, Refused, End}
@@ -30,6 +31,9 @@ use Rattle.run.specs.declared.Stage.the-variants.{Begin, TooLong, First,
 use Rattle.run.specs.declared.Progress.{Progress}
 use Rattle.run.specs.declared.Told.{Told}
 use Rattle.run.specs.declared.Said.{Said}
+use denote.Enum.Declared.{tagOf}
+use types.Run.{OneOf, miss}
+use Rattle.run.proofs.Stage.{the-type}
 use Rattle.run.specs.Program.{line, carried, firstLine, restPrints, linesPrint, openedPrints, inputPrints, prints}
 use Rattle.run.specs.Remaining.{progress, told, begun, remainingAt, remaining, leftAt, left, Counted, FineAt, Fine, Prints, NextAt, Next, goesOn}
 
@@ -46,8 +50,18 @@ picks-no b x f e = simp (e, f)
 pub begin-way : {s : Settings} → s ≡ fresh 0 0 0 → progress Begin 1 0 s ≡ begun
 begin-way e = simp e
 
-pub goes-by : (g : Stage) {h : Stage} {b : Bool} → g ≡ h → b ≡ goesOn h → b ≡ goesOn g
-goes-by g e f = simp (e, f)
+pub goes-not : (g : Stage) → g ≡ Done → false ≡ goesOn g
+unfolding goesOn
+goes-not g e = simp e
+
+pub goes-other : (g : Stage) → OneOf (0 ∷ 1 ∷ 2 ∷ 3 ∷ 4 ∷ []) (tagOf the-type g) → true ≡ goesOn g
+unfolding goesOn
+goes-other Begin k = refl
+goes-other TooLong k = refl
+goes-other First k = refl
+goes-other Lines k = refl
+goes-other Last k = refl
+goes-other Done k = absurd (miss (0 ∷ 1 ∷ 2 ∷ 3 ∷ 4 ∷ []) 5 tt k)
 
 -- the input from byte k on, as the code cuts it
 pub rest-cut : (k : ℕ) (l : List ℕ) → take (length l - k) (drop k l) ≡ drop k l
@@ -121,12 +135,12 @@ module _ (p : Progress) (input : List ℕ) (a : Areas) where
   first-none f h k e = tells e f (rw (split-none 10 input (sym h ∙ k)) refl) tt (omega arith)
 
   pub first-told :
-      {r : Reply} {t : Told} {b : Areas} {q : List ℕ} {x : Bool}
+      {r : Reply} {t : Told} {b : Areas} {q : List ℕ} {m : Command} {x : Bool}
       → t ≡ pick (eqb (r .number) 0) (told Nothing (progress Lines 2 (length q + 1) (r .settings))) (told (Refused 1 (r .number)) (progress Done 2 (length q + 1) (r .settings)))
-      → result r b ≡ firstLine (command q) a → q ≡ upTo 10 input → x ≡ has 10 input → x ≡ true → p .stage ≡ First
+      → result r b ≡ firstLine m a → m ≡ command q → q ≡ upTo 10 input → x ≡ has 10 input → x ≡ true → p .stage ≡ First
       → length input ≤ 65536 → Prints p input a t b
   unfolding remainingAt leftAt FineAt openedPrints pick
-  first-told {r} {t} {b} {q} f o u k v e h = go (eqb (r .number) 0) refl
+  first-told {r} {t} {b} {q} f o j u k v e h = go (eqb (r .number) 0) refl
     where
       here : has 10 input ≡ true
       here = sym k ∙ v
@@ -140,8 +154,8 @@ module _ (p : Progress) (input : List ℕ) (a : Areas) where
       go : (z : Bool) → eqb (r .number) 0 ≡ z → Prints p input a t b
       go true z =
           let s : length q < length input = rw u (before-shorter 10 input here) in
-          tells e (simp z at f) (all ∙ (simp (← o, z))) (record { line = omega arith; place = omega arith; short = h }) (omega arith)
-      go false z = tells e (simp z at f) (all ∙ (simp (← o, z))) tt (omega arith)
+          tells e (simp z at f) (all ∙ (simp (← j, ← o, z))) (record { line = omega arith; place = omega arith; short = h }) (omega arith)
+      go false z = tells e (simp z at f) (all ∙ (simp (← j, ← o, z))) tt (omega arith)
 
   -- a later line
   pub line-line : Counted p input → p .line ≤ 65537
@@ -155,12 +169,12 @@ module _ (p : Progress) (input : List ℕ) (a : Areas) where
       omega arith
 
   pub line-told :
-      {r : Told} {y : Said} {b : Areas} {q : List ℕ} {x : Bool}
+      {r : Told} {y : Said} {b : Areas} {q : List ℕ} {j : Command} {x : Bool}
       → r ≡ told (y .printed) (progress Lines (p .line + 1) (p .at + length q + 1) (y .settings))
-      → line (y .printed) (state (y .settings) b) ≡ carried (p .line) (command q) (state (p .settings) a)
+      → line (y .printed) (state (y .settings) b) ≡ carried (p .line) j (state (p .settings) a) → j ≡ command q
       → q ≡ upTo 10 (drop (p .at) input) → x ≡ has 10 (drop (p .at) input) → x ≡ true → p .stage ≡ Lines → Counted p input → Prints p input a r b
   unfolding remainingAt leftAt FineAt
-  line-told {r} {y} {b} {q} f o u k v e h =
+  line-told {r} {y} {b} {q} f o i u k v e h =
       let rest : List ℕ = drop (p .at) input in
       let here : has 10 (drop (p .at) input) ≡ true = sym k ∙ v in
       let s : length q < length (drop (p .at) input) = rw u (before-shorter 10 rest here) in
@@ -171,7 +185,7 @@ module _ (p : Progress) (input : List ℕ) (a : Areas) where
       in
       let x : State = state (p .settings) a in
       let w : carried (p .line) (command (upTo 10 rest)) x ≡ line (y .printed) (state (y .settings) b) =
-      sym (o ∙ ap (λ (l : List ℕ). carried (p .line) (command l) x) u)
+      sym (o ∙ ap (λ (j : Command). carried (p .line) j x) (i ∙ ap command u))
       in
       let all :
       linesPrint (p .line) (split 10 (drop (p .at) input)) x

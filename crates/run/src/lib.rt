@@ -147,25 +147,10 @@ pub fn carry(
     ensures { λ r. ⌜ line (r .printed) (state (r .settings) (areas (now (nodes .exit)) (now (levels .exit)) (now (workers .exit)))) ≡ carried n c (state s (areas (now (nodes .entry)) (now (levels .entry)) (now (workers .entry)))) ⌝ }
 {
     match c {
-        Command::Sizes(_, _, _) => unread_line(n, s),
         Command::Starts(i, row, column) => start_line(n, i, row, column, s, nodes, levels, workers),
         Command::Turns(i) => turn_line(n, i, s, nodes, levels, workers),
-        Command::Unread => unread_line(n, s),
+        _ => unread_line(n, s),
     }
-}
-
-// Line n, which is not the first, as its bytes.
-fn carry_line(
-    n: u32,
-    q: &[u8],
-    s: Settings,
-    nodes: &mut [u32],
-    levels: &mut [u32],
-    workers: &mut [u32],
-) -> Said
-    ensures { λ r. ⌜ line (r .printed) (state (r .settings) (areas (now (nodes .exit)) (now (levels .exit)) (now (workers .exit)))) ≡ carried n (command (now (q .entry))) (state s (areas (now (nodes .entry)) (now (levels .entry)) (now (workers .entry)))) ⌝ }
-{
-    carry(n, command_of(q), s, nodes, levels, workers)
 }
 
 // The first line with its sizes. The program lends memory for 128 nodes.
@@ -197,17 +182,8 @@ pub fn open_first(c: Command, nodes: &[u32], levels: &mut [u32], workers: &mut [
             levels,
             workers,
         ),
-        Command::Starts(_, _, _) => unread_first(),
-        Command::Turns(_) => unread_first(),
-        Command::Unread => unread_first(),
+        _ => unread_first(),
     }
-}
-
-// The first line as its bytes.
-fn open_line(q: &[u8], nodes: &[u32], levels: &mut [u32], workers: &mut [u32]) -> Reply
-    ensures { λ r. ⌜ result r (areas (now (nodes .entry)) (now (levels .exit)) (now (workers .exit))) ≡ firstLine (command (now (q .entry))) (areas (now (nodes .entry)) (now (levels .entry)) (now (workers .entry))) ⌝ }
-{
-    open_first(command_of(q), nodes, levels, workers)
 }
 
 // A run before anything is printed.
@@ -228,12 +204,8 @@ pub fn goes_on(p: Progress) -> bool
 {
     let g = p.stage;
     match g {
-        Stage::Begin => true,
-        Stage::TooLong => true,
-        Stage::First => true,
-        Stage::Lines => true,
-        Stage::Last => true,
         Stage::Done => false,
+        _ => true,
     }
 }
 
@@ -376,7 +348,7 @@ fn next_first(
 {
     if has(input, 10) {
         let q = up_to(input, 10);
-        let r = open_line(q, nodes, levels, workers);
+        let r = open_first(command_of(q), nodes, levels, workers);
         opened(r, q.len() + 1)
     } else {
         tell(Printed::Refused(1, 10), Stage::Done, p)
@@ -399,7 +371,7 @@ fn next_lines(
     if line_ends(input, at) {
         let q = line_at(input, at);
         let s = p.settings;
-        let x = carry_line(p.line, q, s, nodes, levels, workers);
+        let x = carry(p.line, command_of(q), s, nodes, levels, workers);
         next_line(p, q.len(), x)
     } else {
         next_rest(p, input.len() - at)

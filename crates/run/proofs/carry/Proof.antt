@@ -1,15 +1,9 @@
 -- `run::carry` meets its contract.
 -- Relies on the ways through one line.
-use Rattle.run.proofs.Carried.{carried-sizes, carried-start, carried-turn, carried-unread}
 use borrow.Author.Needs.{needs}
+use Rattle.run.proofs.Carried.{carried-start, carried-turn, carried-other}
 use Rattle.run.proofs.carry.Statement.{statement}
 use Rattle.run.proofs.carry.Tie as tie
-
-enum-told : tie.Need-enum-told
-enum-told c = search needs
-
-unread-line-requires : tie.Need-unread-line-requires
-unread-line-requires c κs = search needs
 
 enum-known-c : tie.Need-enum-known-c
 enum-known-c c = search needs
@@ -23,14 +17,8 @@ enum-known-c-2 c = search needs
 turn-line-requires : tie.Need-turn-line-requires
 turn-line-requires c κs = search needs
 
-enum-told-2 : tie.Need-enum-told-2
-enum-told-2 c = search needs
-
-unread-line-requires-2 : tie.Need-unread-line-requires-2
-unread-line-requires-2 c κs = search needs
-
-returns : tie.Need-returns
-returns c = search (needs, carried-sizes)
+unread-line-requires : tie.Need-unread-line-requires
+unread-line-requires c κs = search needs
 
 same-length : tie.Need-same-length
 same-length c = search needs
@@ -41,8 +29,8 @@ same-length-2 c = search needs
 same-length-3 : tie.Need-same-length-3
 same-length-3 c = search needs
 
-returns-2 : tie.Need-returns-2
-returns-2 c = search (needs, carried-start)
+returns : tie.Need-returns
+returns c = search (needs, carried-start)
 
 same-length-4 : tie.Need-same-length-4
 same-length-4 c = search needs
@@ -53,31 +41,27 @@ same-length-5 c = search needs
 same-length-6 : tie.Need-same-length-6
 same-length-6 c = search needs
 
-returns-3 : tie.Need-returns-3
-returns-3 c = search (needs, carried-turn)
+returns-2 : tie.Need-returns-2
+returns-2 c = search (needs, carried-turn)
 
-returns-4 : tie.Need-returns-4
-returns-4 c = search (needs, carried-unread)
+returns-3 : tie.Need-returns-3
+returns-3 c = search (needs, carried-other)
 
 pub carry-spec : {M : Type 1} → statement M
 carry-spec =
     tie.close
     (tie.spec
-    enum-told
-    unread-line-requires
     enum-known-c
     start-line-requires
     enum-known-c-2
     turn-line-requires
-    enum-told-2
-    unread-line-requires-2
-    returns
+    unread-line-requires
     same-length
     same-length-2
     same-length-3
-    returns-2
+    returns
     same-length-4
     same-length-5
     same-length-6
-    returns-3
-    returns-4)
+    returns-2
+    returns-3)

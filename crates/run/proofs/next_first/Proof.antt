@@ -1,7 +1,7 @@
 -- `run::next_first` meets its contract.
 -- Relies on the ways through a stage.
-use Rattle.run.proofs.Stages.{first-told, first-none}
 use borrow.Author.Needs.{needs}
+use Rattle.run.proofs.Stages.{first-told, first-none}
 use Rattle.run.proofs.next_first.Statement.{statement}
 use Rattle.run.proofs.next_first.Tie as tie
 
@@ -11,8 +11,11 @@ has-requires c κs = search needs
 up-to-requires : tie.Need-up-to-requires
 up-to-requires c κs = search needs
 
-open-line-requires : tie.Need-open-line-requires
-open-line-requires c κs = search needs
+command-of-requires : tie.Need-command-of-requires
+command-of-requires c κs = search needs
+
+open-first-requires : tie.Need-open-first-requires
+open-first-requires c κs = search needs
 
 add-opened : tie.Need-add-opened
 add-opened c = search needs
@@ -30,7 +33,12 @@ same-length-2 : tie.Need-same-length-2
 same-length-2 c = search needs
 
 returns : tie.Need-returns
-returns c = search (needs, first-told)
+returns c =
+    let d = c .before .before .before .before .before in
+    let e = d .before .before .before in
+    let g = e .before .before .before in
+    let h = g .before .before .before .before .before .pre in
+    first-told _ _ _ (c .opened .ensures) (d .open-first .ensures) (e .command-of .ensures) (e .before .up-to .ensures) (g .has .ensures) (e .before .before .if1 .taken) (h .0) (h .1)
 
 returns-2 : tie.Need-returns-2
 returns-2 c = search (needs, first-none)
@@ -41,7 +49,8 @@ next-first-spec =
     (tie.spec
     has-requires
     up-to-requires
-    open-line-requires
+    command-of-requires
+    open-first-requires
     add-opened
     opened-requires
     tell-requires

@@ -1,7 +1,7 @@
 -- `run::next_lines` meets its contract.
 -- Relies on the ways through a stage.
-use Rattle.run.proofs.Stages.{line-line, line-fits, line-told, rest-told}
 use borrow.Author.Needs.{needs}
+use Rattle.run.proofs.Stages.{line-line, line-fits, line-told, rest-told}
 use Rattle.run.proofs.next_lines.Statement.{statement}
 use Rattle.run.proofs.next_lines.Tie as tie
 
@@ -11,8 +11,11 @@ line-ends-requires c κs = search needs
 line-at-requires : tie.Need-line-at-requires
 line-at-requires c κs = search needs
 
-carry-line-requires : tie.Need-carry-line-requires
-carry-line-requires c κs = search needs
+command-of-requires : tie.Need-command-of-requires
+command-of-requires c κs = search needs
+
+carry-requires : tie.Need-carry-requires
+carry-requires c κs = search needs
 
 next-line-requires : tie.Need-next-line-requires
 next-line-requires c κs = search (needs, line-line, line-fits)
@@ -35,10 +38,11 @@ same-length-3 c = search needs
 returns : tie.Need-returns
 returns c =
     let d = c .before .before .before .before .before .before .before in
-    let e = d .before .before .before .before .before in
-    let g = e .before .before in
+    let e = d .before .before .before .before in
+    let f = e .before .before in
+    let g = f .before .before in
     let h = g .before .before .before .before .before .pre in
-    search (needs, line-told, d .carry-line .ensures, e .line-at .ensures, e .before .if1 .taken, g .line-ends .ensures, h .0, h .1)
+    line-told _ _ _ (c .next-line .ensures) (d .carry .ensures) (e .command-of .ensures) (f .line-at .ensures) (g .line-ends .ensures) (f .before .if1 .taken) (h .0) (h .1)
 
 returns-2 : tie.Need-returns-2
 returns-2 c = search (needs, rest-told)
@@ -49,7 +53,8 @@ next-lines-spec =
     (tie.spec
     line-ends-requires
     line-at-requires
-    carry-line-requires
+    command-of-requires
+    carry-requires
     next-line-requires
     sub-next-rest
     next-rest-requires

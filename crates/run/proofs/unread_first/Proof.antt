@@ -1,6 +1,7 @@
 -- `run::unread_first` meets its contract.
--- Relies on nothing.
+-- Relies on the ways through one line.
 use borrow.Author.Needs.{needs}
+use Rattle.run.proofs.Carried.{unread-way}
 use Rattle.run.proofs.unread_first.Statement.{statement}
 use Rattle.run.proofs.unread_first.Tie as tie
 
@@ -11,7 +12,7 @@ refusal-requires : tie.Need-refusal-requires
 refusal-requires c κs = search needs
 
 returns : tie.Need-returns
-returns c = cc
+returns c = search (needs, unread-way)
 
 pub unread-first-spec : {M : Type 1} → statement M
 unread-first-spec = tie.close (tie.spec fresh-requires refusal-requires returns)
