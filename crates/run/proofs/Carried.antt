@@ -1,6 +1,6 @@
 -- The ways through one line: a start, a turn, a line that does not read, and the first line.
 -- Relies on nothing.
-use mathlib.Core.Path.{_≡_}
+use mathlib.Core.Path.{_≡_, refl}
 use mathlib.Core.Bool.{true, false}
 use mathlib.Core.List.{List, [], _∷_}
 use Prim.Native.Nat.{ℕ}
@@ -54,13 +54,12 @@ module _ (n : ℕ) (s : Settings) (a : Areas) (c : Command) where
 
 -- any other line does not read
 pub carried-other :
-    (n : ℕ) (s : Settings) (a : Areas) (c : Command) {p : Printed} {t : Settings}
-    → p ≡ Refused n 10 → t ≡ s → OneOf (0 ∷ 3 ∷ []) (tagOf the-type c) → line p (state t a) ≡ carried n c (state s a)
+    (n : ℕ) (s : Settings) (a : Areas) (c : Command) → OneOf (0 ∷ 3 ∷ []) (tagOf the-type c) → line (Refused n 10) (state s a) ≡ carried n c (state s a)
 unfolding carried
-carried-other n s a (Sizes workers limit nodes) e f k = simp (e, f)
-carried-other n s a (Starts i row column) e f k = absurd (miss (0 ∷ 3 ∷ []) 1 tt k)
-carried-other n s a (Turns i) e f k = absurd (miss (0 ∷ 3 ∷ []) 2 tt k)
-carried-other n s a Unread e f k = simp (e, f)
+carried-other n s a (Sizes workers limit nodes) k = refl
+carried-other n s a (Starts i row column) k = absurd (miss (0 ∷ 3 ∷ []) 1 tt k)
+carried-other n s a (Turns i) k = absurd (miss (0 ∷ 3 ∷ []) 2 tt k)
+carried-other n s a Unread k = refl
 
 pub carried-turn :
     (n : ℕ) (s : Settings) (nodes levels workers : List ℕ) (c : Command) {i : ℕ} {x : Line}
@@ -90,14 +89,10 @@ module _ (c : Command) (a : Areas) where
   first-sizes e f g = simp (g, e, f)
 
 pub first-other :
-    (c : Command) (a : Areas) {r : Reply}
-    → r ≡ reply 10 answer.Nothing 0 (fresh 0 0 0) → OneOf (1 ∷ 2 ∷ 3 ∷ []) (tagOf the-type c) → result r a ≡ firstLine c a
+    (c : Command) (a : Areas) {r : Reply} {s : Settings}
+    → r ≡ reply 10 answer.Nothing 0 s → s ≡ fresh 0 0 0 → OneOf (1 ∷ 2 ∷ 3 ∷ []) (tagOf the-type c) → result r a ≡ firstLine c a
 unfolding firstLine
-first-other (Sizes workers limit nodes) a e k = absurd (miss (1 ∷ 2 ∷ 3 ∷ []) 0 tt k)
-first-other (Starts i row column) a e k = simp e
-first-other (Turns i) a e k = simp e
-first-other Unread a e k = simp e
-
--- the reply to a first line that does not read
-pub unread-way : {r : Reply} {s : Settings} → r ≡ reply 10 answer.Nothing 0 s → s ≡ fresh 0 0 0 → r ≡ reply 10 answer.Nothing 0 (fresh 0 0 0)
-unread-way e f = simp (e, f)
+first-other (Sizes workers limit nodes) a e f k = absurd (miss (1 ∷ 2 ∷ 3 ∷ []) 0 tt k)
+first-other (Starts i row column) a e f k = simp (e, f)
+first-other (Turns i) a e f k = simp (e, f)
+first-other Unread a e f k = simp (e, f)

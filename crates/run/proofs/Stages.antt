@@ -67,13 +67,6 @@ goes-other Done k = absurd (miss (0 ∷ 1 ∷ 2 ∷ 3 ∷ 4 ∷ []) 5 tt k)
 pub rest-cut : (k : ℕ) (l : List ℕ) → take (length l - k) (drop k l) ≡ drop k l
 rest-cut k l = take-all (length l - k) (drop k l) (rw length-drop (omega arith))
 
--- the line that begins there, by the input from there on
-pub ends-way : (k : ℕ) (input : List ℕ) {l : List ℕ} {b : Bool} → b ≡ has 10 l → l ≡ drop k input → b ≡ has 10 (drop k input)
-ends-way k input e f = simp (e, f)
-
-pub at-way : (k : ℕ) (input : List ℕ) {l q : List ℕ} → q ≡ upTo 10 l → l ≡ drop k input → q ≡ upTo 10 (drop k input)
-at-way k input e f = simp (e, f)
-
 -- the part before the first b is shorter than the whole
 before-shorter : (b : ℕ) (l : List ℕ) → has b l ≡ true → length (upTo b l) < length l
 before-shorter b l h = ltb-true _ _ (has-place b l refl refl ∙ h)
@@ -162,21 +155,22 @@ module _ (p : Progress) (input : List ℕ) (a : Areas) where
   line-line h = omega arith
 
   pub line-fits :
-      {q : List ℕ} {x : Bool} → q ≡ upTo 10 (drop (p .at) input) → x ≡ has 10 (drop (p .at) input) → x ≡ true → Counted p input → p .at + length q ≤ 65536
-  line-fits {q} u k v h =
-      let s : length q < length (drop (p .at) input) = rw u (before-shorter 10 (drop (p .at) input) (sym k ∙ v)) in
-      let m : length (drop (p .at) input) ≡ length input - p .at = length-drop (p .at) input in
+      {l q : List ℕ} {x : Bool} → q ≡ upTo 10 l → x ≡ has 10 l → x ≡ true → l ≡ drop (p .at) input → Counted p input → p .at + length q ≤ 65536
+  line-fits {l} {q} u k v n h =
+      let s : length q < length l = rw u (before-shorter 10 l (sym k ∙ v)) in
+      let m : length l ≡ length input - p .at = rw n (length-drop (p .at) input) in
       omega arith
 
   pub line-told :
-      {r : Told} {y : Said} {b : Areas} {q : List ℕ} {j : Command} {x : Bool}
+      {r : Told} {y : Said} {b : Areas} {l q : List ℕ} {j : Command} {x : Bool}
       → r ≡ told (y .printed) (progress Lines (p .line + 1) (p .at + length q + 1) (y .settings))
       → line (y .printed) (state (y .settings) b) ≡ carried (p .line) j (state (p .settings) a) → j ≡ command q
-      → q ≡ upTo 10 (drop (p .at) input) → x ≡ has 10 (drop (p .at) input) → x ≡ true → p .stage ≡ Lines → Counted p input → Prints p input a r b
+      → q ≡ upTo 10 l → x ≡ has 10 l → x ≡ true → l ≡ drop (p .at) input → p .stage ≡ Lines → Counted p input → Prints p input a r b
   unfolding remainingAt leftAt FineAt
-  line-told {r} {y} {b} {q} f o i u k v e h =
+  line-told {r} {y} {b} {l} {q} f o i u₀ k v n e h =
       let rest : List ℕ = drop (p .at) input in
-      let here : has 10 (drop (p .at) input) ≡ true = sym k ∙ v in
+      let u : q ≡ upTo 10 (drop (p .at) input) = u₀ ∙ ap (λ (l : List ℕ). upTo 10 l) n in
+      let here : has 10 (drop (p .at) input) ≡ true = sym (k ∙ ap (λ (l : List ℕ). has 10 l) n) ∙ v in
       let s : length q < length (drop (p .at) input) = rw u (before-shorter 10 rest here) in
       let m : length (drop (p .at) input) ≡ length input - p .at = length-drop (p .at) input in
       let z : p .at + suc (length q) ≡ p .at + length q + 1 = omega arith in
@@ -197,11 +191,11 @@ module _ (p : Progress) (input : List ℕ) (a : Areas) where
 
   -- what stands behind the last byte 10
   pub rest-told :
-      {r : Told} {x : Bool}
-      → r ≡ pick (eqb (length input - p .at) 0) (told (End (p .settings .«nodes_taken») (p .settings .«levels_taken»)) (progress Done (p .line) (p .at) (p .settings))) (told (Refused (p .line) 10) (progress Last (p .line) (p .at) (p .settings)))
-      → x ≡ has 10 (drop (p .at) input) → x ≡ false → p .stage ≡ Lines → Prints p input a r a
+      {r : Told} {k : List ℕ} {x : Bool}
+      → r ≡ pick (eqb (length k) 0) (told (End (p .settings .«nodes_taken») (p .settings .«levels_taken»)) (progress Done (p .line) (p .at) (p .settings))) (told (Refused (p .line) 10) (progress Last (p .line) (p .at) (p .settings)))
+      → x ≡ has 10 k → x ≡ false → k ≡ drop (p .at) input → p .stage ≡ Lines → Prints p input a r a
   unfolding remainingAt leftAt FineAt restPrints linesPrint pick
-  rest-told {r} f k v e = go (drop (p .at) input) refl (split-none 10 (drop (p .at) input) (sym k ∙ v)) (rw (← length-drop (p .at) input) at f)
+  rest-told {r} f w v n e = go (drop (p .at) input) refl (split-none 10 (drop (p .at) input) (rw n at (sym w ∙ v))) (rw n at f)
     where
       go :
           (l : List ℕ) → drop (p .at) input ≡ l → split 10 (drop (p .at) input) ≡ drop (p .at) input ∷ []

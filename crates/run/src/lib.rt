@@ -125,17 +125,7 @@ fn turn_line(
     }
 }
 
-// Line n does not read, and nothing is done.
-fn unread_line(n: u32, s: Settings) -> Said
-    ensures { λ r. ⌜ (r .printed ≡ Printed.Refused n 10) × (r .settings ≡ s) ⌝ }
-{
-    Said {
-        printed: Printed::Refused(n, 10),
-        settings: s,
-    }
-}
-
-// Line n, which is not the first, as the command that it reads as.
+// Line n, which is not the first, as the command that it reads as. Where it does not read, nothing is done.
 pub fn carry(
     n: u32,
     c: Command,
@@ -149,7 +139,10 @@ pub fn carry(
     match c {
         Command::Starts(i, row, column) => start_line(n, i, row, column, s, nodes, levels, workers),
         Command::Turns(i) => turn_line(n, i, s, nodes, levels, workers),
-        _ => unread_line(n, s),
+        _ => Said {
+            printed: Printed::Refused(n, 10),
+            settings: s,
+        },
     }
 }
 
@@ -164,13 +157,6 @@ fn open_sizes(s: Settings, nodes: &[u32], levels: &mut [u32], workers: &mut [u32
     }
 }
 
-// A first line that does not read.
-fn unread_first() -> Reply
-    ensures { λ r. ⌜ r ≡ reply 10 Answer.Nothing 0 (fresh 0 0 0) ⌝ }
-{
-    refusal(10, Settings::fresh(0, 0, 0))
-}
-
 // The first line as the command that it reads as: an opening, or its refusal.
 pub fn open_first(c: Command, nodes: &[u32], levels: &mut [u32], workers: &mut [u32]) -> Reply
     ensures { λ r. ⌜ result r (areas (now (nodes .entry)) (now (levels .exit)) (now (workers .exit))) ≡ firstLine c (areas (now (nodes .entry)) (now (levels .entry)) (now (workers .entry))) ⌝ }
@@ -182,7 +168,7 @@ pub fn open_first(c: Command, nodes: &[u32], levels: &mut [u32], workers: &mut [
             levels,
             workers,
         ),
-        _ => unread_first(),
+        _ => refusal(10, Settings::fresh(0, 0, 0)),
     }
 }
 
@@ -270,22 +256,6 @@ fn rest_of(input: &[u8], k: usize) -> &[u8]
     &input[k..]
 }
 
-// Whether the line that begins at byte k has its byte 10.
-fn line_ends(input: &[u8], k: usize) -> bool
-    requires { ⌜ k ≤ length (now input) ⌝ }
-    ensures { λ r. ⌜ r ≡ has 10 (drop k (now (input .entry))) ⌝ }
-{
-    has(rest_of(input, k), 10)
-}
-
-// The line that begins at byte k.
-fn line_at(input: &[u8], k: usize) -> &[u8]
-    requires { ⌜ k ≤ length (now input) ⌝ }
-    ensures { λ r. ⌜ now r ≡ upTo 10 (drop k (now (input .entry))) ⌝ }
-{
-    up_to(rest_of(input, k), 10)
-}
-
 // A later line of m bytes was carried out.
 fn next_line(p: Progress, m: usize, x: Said) -> Told
     requires { ⌜ p .line ≤ 65537 ⌝ }
@@ -326,14 +296,6 @@ fn next_last(p: Progress) -> Told
     tell(end_line(s), Stage::Done, p)
 }
 
-// An input that is too long is refused.
-fn next_too_long(p: Progress) -> Told
-    requires { ⌜ p .stage ≡ Stage.TooLong ⌝ }
-    ensures { λ r. ⌜ ((input : List ℕ) (a : Areas) → Prints p input a r a) ⌝ }
-{
-    tell(Printed::Refused(0, 10), Stage::Done, p)
-}
-
 // The first line.
 fn next_first(
     p: Progress,
@@ -368,13 +330,14 @@ fn next_lines(
     ensures { λ r. ⌜ Prints p (now (input .entry)) (areas (now (nodes .entry)) (now (levels .entry)) (now (workers .entry))) r (areas (now (nodes .exit)) (now (levels .exit)) (now (workers .exit))) ⌝ }
 {
     let at = p.at;
-    if line_ends(input, at) {
-        let q = line_at(input, at);
+    let rest = rest_of(input, at);
+    if has(rest, 10) {
+        let q = up_to(rest, 10);
         let s = p.settings;
         let x = carry(p.line, command_of(q), s, nodes, levels, workers);
         next_line(p, q.len(), x)
     } else {
-        next_rest(p, input.len() - at)
+        next_rest(p, rest.len())
     }
 }
 
@@ -392,7 +355,7 @@ pub fn next(
     let g = p.stage;
     match g {
         Stage::Begin => next_begin(p, input),
-        Stage::TooLong => next_too_long(p),
+        Stage::TooLong => tell(Printed::Refused(0, 10), Stage::Done, p),
         Stage::First => next_first(p, input, nodes, levels, workers),
         Stage::Lines => next_lines(p, input, nodes, levels, workers),
         Stage::Last => next_last(p),

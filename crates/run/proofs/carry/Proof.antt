@@ -17,9 +17,6 @@ enum-known-c-2 c = search needs
 turn-line-requires : tie.Need-turn-line-requires
 turn-line-requires c κs = search needs
 
-unread-line-requires : tie.Need-unread-line-requires
-unread-line-requires c κs = search needs
-
 same-length : tie.Need-same-length
 same-length c = search needs
 
@@ -55,7 +52,6 @@ carry-spec =
     start-line-requires
     enum-known-c-2
     turn-line-requires
-    unread-line-requires
     same-length
     same-length-2
     same-length-3

@@ -1,8 +1,8 @@
 -- `run::next` meets its contract.
 -- Relies on the ways through a stage.
-use Rattle.run.specs.Remaining.{goesOn}
-use Rattle.run.proofs.Stages.{fine-first, fine-lines, next-goes, next-done}
 use borrow.Author.Needs.{needs}
+use Rattle.run.specs.Remaining.{goesOn}
+use Rattle.run.proofs.Stages.{too-long, fine-first, fine-lines, next-goes, next-done}
 use Rattle.run.proofs.next.Statement.{statement}
 use Rattle.run.proofs.next.Tie as tie
 
@@ -15,8 +15,8 @@ next-begin-requires c κs = search needs
 enum-told-2 : tie.Need-enum-told-2
 enum-told-2 c = search needs
 
-next-too-long-requires : tie.Need-next-too-long-requires
-next-too-long-requires c κs = search needs
+tell-requires : tie.Need-tell-requires
+tell-requires c κs = search needs
 
 enum-told-3 : tie.Need-enum-told-3
 enum-told-3 c = search needs
@@ -39,8 +39,8 @@ next-last-requires c κs = search needs
 enum-told-6 : tie.Need-enum-told-6
 enum-told-6 c = search needs
 
-tell-requires : tie.Need-tell-requires
-tell-requires c κs = search needs
+tell-requires-2 : tie.Need-tell-requires-2
+tell-requires-2 c κs = search needs
 
 returns : tie.Need-returns
 unfolding goesOn
@@ -48,7 +48,7 @@ returns c = search (needs, next-goes, c .next-begin .ensures)
 
 returns-2 : tie.Need-returns-2
 unfolding goesOn
-returns-2 c = search (needs, next-goes, c .next-too-long .ensures)
+returns-2 c = search (needs, next-goes, too-long)
 
 same-length : tie.Need-same-length
 same-length c = search needs
@@ -90,7 +90,7 @@ next-spec =
     enum-told
     next-begin-requires
     enum-told-2
-    next-too-long-requires
+    tell-requires
     enum-told-3
     next-first-requires
     enum-told-4
@@ -98,7 +98,7 @@ next-spec =
     enum-told-5
     next-last-requires
     enum-told-6
-    tell-requires
+    tell-requires-2
     returns
     returns-2
     same-length

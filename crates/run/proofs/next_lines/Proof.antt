@@ -5,11 +5,14 @@ use Rattle.run.proofs.Stages.{line-line, line-fits, line-told, rest-tol
 use Rattle.run.proofs.next_lines.Statement.{statement}
 use Rattle.run.proofs.next_lines.Tie as tie
 
-line-ends-requires : tie.Need-line-ends-requires
-line-ends-requires c κs = search needs
+rest-of-requires : tie.Need-rest-of-requires
+rest-of-requires c κs = search needs
 
-line-at-requires : tie.Need-line-at-requires
-line-at-requires c κs = search needs
+has-requires : tie.Need-has-requires
+has-requires c κs = search needs
+
+up-to-requires : tie.Need-up-to-requires
+up-to-requires c κs = search needs
 
 command-of-requires : tie.Need-command-of-requires
 command-of-requires c κs = search needs
@@ -19,9 +22,6 @@ carry-requires c κs = search needs
 
 next-line-requires : tie.Need-next-line-requires
 next-line-requires c κs = search (needs, line-line, line-fits)
-
-sub-next-rest : tie.Need-sub-next-rest
-sub-next-rest c = search needs
 
 next-rest-requires : tie.Need-next-rest-requires
 next-rest-requires c κs = search needs
@@ -41,8 +41,8 @@ returns c =
     let e = d .before .before .before .before in
     let f = e .before .before in
     let g = f .before .before in
-    let h = g .before .before .before .before .before .pre in
-    line-told _ _ _ (c .next-line .ensures) (d .carry .ensures) (e .command-of .ensures) (f .line-at .ensures) (g .line-ends .ensures) (f .before .if1 .taken) (h .0) (h .1)
+    let h = g .before .before .before .before .before .before .pre in
+    line-told _ _ _ (c .next-line .ensures) (d .carry .ensures) (e .command-of .ensures) (f .up-to .ensures) (g .has .ensures) (f .before .if1 .taken) (g .before .rest-of .ensures) (h .0) (h .1)
 
 returns-2 : tie.Need-returns-2
 returns-2 c = search (needs, rest-told)
@@ -51,12 +51,12 @@ pub next-lines-spec : {M : Type 1} → statement M
 next-lines-spec =
     tie.close
     (tie.spec
-    line-ends-requires
-    line-at-requires
+    rest-of-requires
+    has-requires
+    up-to-requires
     command-of-requires
     carry-requires
     next-line-requires
-    sub-next-rest
     next-rest-requires
     same-length
     same-length-2

@@ -14,8 +14,11 @@ fresh-requires c κs = search needs
 open-sizes-requires : tie.Need-open-sizes-requires
 open-sizes-requires c κs = search needs
 
-unread-first-requires : tie.Need-unread-first-requires
-unread-first-requires c κs = search needs
+fresh-requires-2 : tie.Need-fresh-requires-2
+fresh-requires-2 c κs = search needs
+
+refusal-requires : tie.Need-refusal-requires
+refusal-requires c κs = search needs
 
 same-length : tie.Need-same-length
 same-length c = search needs
@@ -36,7 +39,8 @@ open-first-spec =
     enum-known-c
     fresh-requires
     open-sizes-requires
-    unread-first-requires
+    fresh-requires-2
+    refusal-requires
     same-length
     same-length-2
     returns
