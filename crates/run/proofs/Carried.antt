@@ -17,7 +17,7 @@ use Rattle.record.specs.declared.Head.{Head}
 use Rattle.record.specs.declared.Reply.{Reply}
 use Rattle.record.specs.Layout.{load, headAt}
 use Rattle.rules.specs.Operations.{Result, result, reply, refused, opening, start, turn}
-use Rattle.rules.specs.Lists.{State, state}
+use Rattle.rules.specs.Lists.{state}
 use Rattle.text.specs.declared.Command.{Command}
 use Rattle.text.specs.declared.Command.the-variants.{Sizes, Starts, Turns, Unread}
 use Rattle.text.proofs.Command.{the-type}
@@ -45,12 +45,12 @@ pub turn-way :
 unfolding turnLine
 turn-way n i w l e f g = simp (e, g, ← f)
 
-module _ (n : ℕ) (s : Settings) (a : Areas) (c : Command) where
-  pub carried-start :
-      {i row column : ℕ} {x : Line}
-      → x ≡ startLine n (start 3 s i row column a) → c ≡ Starts i row column → x ≡ carried n c (state s a)
-  unfolding carried
-  carried-start e g = simp (g, e)
+-- a later line by its command
+pub carried-start :
+    (n : ℕ) (s : Settings) (a : Areas) (c : Command) {i row column : ℕ} {x : Line}
+    → x ≡ startLine n (start 3 s i row column a) → c ≡ Starts i row column → x ≡ carried n c (state s a)
+unfolding carried
+carried-start n s a c e g = simp (g, e)
 
 -- any other line does not read
 pub carried-other :

@@ -6,7 +6,7 @@ ghost use mathlib.Core.List.{[], _∷_, _++_};
 ghost use Prim.Native.Nat.{_+_, _-_, _%_, _≤_};
 ghost use lib.Dec.{eqb};
 ghost use lib.ListN.{length, take, drop, getD};
-ghost use Rattle.words.specs.Choice.{pick, both, every};
+ghost use Rattle.words.specs.Choice.{pick, every};
 ghost use Rattle.text.specs.Parts.{comma, lineEnd};
 ghost use Rattle.text.specs.Commands.{isDigit, isNumber, numberOf, field, fieldCount, isLetter, hasThree, hasOne, command};
 ghost use Rattle.text.specs.Printing.{decimal, callBytes, bytesOf};
