@@ -95,7 +95,7 @@ pub extern "C" fn leafdrum_turn(
 ) -> LeafdrumReply
     ensures { λ r. ⌜ shown r (areas (now (nodes .exit)) (now (levels .exit)) (now (workers .exit))) ≡ exported (turn 3 settings worker (areas (now (nodes .entry)) (now (levels .entry)) (now (workers .entry)))) ⌝ }
 {
-    numbers(turns::turn(settings, worker, nodes, levels, workers))
+    numbers(lists::turn(settings, worker, nodes, levels, workers))
 }
 
 #[no_mangle]

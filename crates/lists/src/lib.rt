@@ -1,4 +1,4 @@
-// A list of turns with a limit: a public operation with no `requires`, whose contract is one equation.
+// A list of turns with a limit, and one turn: public operations with no `requires`, each with a contract that is one equation.
 // Relies on turns for the turn of a worker, on settings for questions 1 to 3, which are asked once a list.
 ghost use mathlib.Core.Path.{_≡_};
 ghost use mathlib.Core.Bool.{true};
@@ -10,16 +10,22 @@ ghost use Rattle.settings.specs.Sizes.{firstThree};
 ghost use Rattle.areas.specs.Memory.{areas};
 ghost use Rattle.record.specs.Kinds.{kindNo};
 ghost use Rattle.record.specs.Layout.{headAt};
-ghost use Rattle.rules.specs.Operations.{result, reply};
+ghost use Rattle.rules.specs.Operations.{result, reply, turn};
+ghost use Rattle.table.specs.Cut.{firstFour};
 ghost use Rattle.rules.specs.Lists.{state, turns};
-ghost use Rattle.lists.specs.Cut.{run, countedBy, ranOf, tally, idleTally, openTally, overOf, ranEntry, ranList};
+ghost use Rattle.lists.specs.Cut.{run, countedBy, ranOf, tally, idleTally, openTally, overOf, ranEntry, ranList, numberBy, toldBy, oneReply};
 use record::Answer;
+use record::Head;
 use record::Reply;
 use record::answer_at;
+use record::answer_of;
 use record::idle_at;
 use record::idle_fits;
+use record::kind_no;
 use settings::Settings;
 use table::refusal;
+use table::refused_worker;
+use table::replied;
 use turns::Done;
 use turns::open_here;
 use words::and;
@@ -211,6 +217,84 @@ pub fn turns(
         } else {
             refusal(4, s)
         }
+    } else {
+        refusal(q, s)
+    }
+}
+
+// The number of a turn that was done, as its worker's head tells it: 9 where the call has ended "full".
+fn number_told(h: Head) -> u32
+    ensures { λ r. ⌜ r ≡ numberBy h ⌝ }
+{
+    let k = h.kind;
+    if kind_no(k) == 0 {
+        if h.answer == 3 { 9 } else { 0 }
+    } else {
+        0
+    }
+}
+
+// Its answer.
+fn told(h: Head) -> Answer
+    ensures { λ r. ⌜ r ≡ toldBy h ⌝ }
+{
+    let k = h.kind;
+    if kind_no(k) == 0 {
+        answer_of(h.answer, h.answer_node)
+    } else {
+        Answer::Open
+    }
+}
+
+// The reply of a turn, from the tally of a list of it alone and its worker's head after it. Where the list has done no turn, the worker is idle.
+fn one_reply(s: Settings, t: Tally, h: Head) -> Reply
+    ensures { λ r. ⌜ r ≡ oneReply s t h ⌝ }
+{
+    if t.number == 6 {
+        refusal(6, s)
+    } else {
+        if t.left == 0 {
+            replied(
+                number_told(h),
+                told(h),
+                s.with_counts(t.nodes_taken, t.levels_taken),
+            )
+        } else {
+            refusal(8, s)
+        }
+    }
+}
+
+// A turn of a worker below workers, as a list of one entry.
+fn one_turn(
+    s: Settings,
+    i: u32,
+    nodes: &mut [u32],
+    levels: &mut [u32],
+    workers: &mut [u32],
+) -> Reply
+    requires { ⌜ firstFour 3 s i (length (now nodes)) (length (now levels)) (length (now workers)) ≡ 0 ⌝ }
+    ensures { λ r. ⌜ result r (areas (now (nodes .exit)) (now (levels .exit)) (now (workers .exit))) ≡ turn 3 s i (areas (now (nodes .entry)) (now (levels .entry)) (now (workers .entry))) ⌝ }
+{
+    let l = [i as u8];
+    let t = run_list(s, &l, 1, nodes, levels, workers);
+    let h = Head::load(workers, i);
+    one_reply(s, t, h)
+}
+
+// One turn of worker i. It is a list of one entry, so that a library has the code of a turn once, inside the list's loop.
+pub fn turn(
+    s: Settings,
+    i: u32,
+    nodes: &mut [u32],
+    levels: &mut [u32],
+    workers: &mut [u32],
+) -> Reply
+    ensures { λ r. ⌜ result r (areas (now (nodes .exit)) (now (levels .exit)) (now (workers .exit))) ≡ turn 3 s i (areas (now (nodes .entry)) (now (levels .entry)) (now (workers .entry))) ⌝ }
+{
+    let q = refused_worker(s, i, nodes, levels, workers);
+    if q == 0 {
+        one_turn(s, i, nodes, levels, workers)
     } else {
         refusal(q, s)
     }

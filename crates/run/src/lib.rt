@@ -12,6 +12,7 @@ ghost use Rattle.rules.specs.Operations.{result, refused, opening, start, turn}
 ghost use Rattle.rules.specs.Lists.{state};
 ghost use Rattle.run.specs.Program.{line, startLine, turnPrints, turnLine, carried, firstLine};
 ghost use Rattle.run.specs.Remaining.{progress, told, begun, Counted, Fine, Prints, Next, goesOn};
+use lists::turn;
 use record::Answer;
 use record::Head;
 use record::Reply;
@@ -24,7 +25,6 @@ use text::Printed;
 use text::command_of;
 use text::has;
 use text::up_to;
-use turns::turn;
 
 // How far a run is: nothing is printed yet; the input is too long; the first line is to be read; the later lines; the end line is to be printed; all is printed.
 pub enum Stage {

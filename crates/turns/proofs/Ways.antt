@@ -10,12 +10,11 @@ use lib.Dec.{eqb, leb}
 use lib.ListN.{length}
 use borrow.Author.Tests.{eq-eqb, ne-eqb, eqb-true, eqb-false, le-leb, leb-true, leb-false, ltb-true}
 use Rattle.words.specs.Choice.{pick, both}
-use Rattle.words.proofs.Choice.{pick-both, pick-true, pick-false, both-right}
-use Rattle.settings.specs.Cut.{counted}
-use Rattle.settings.specs.Sizes.{firstThree, question2, maxMoves, workerWords, Sized}
+use Rattle.words.proofs.Choice.{pick-true, pick-false, both-right}
+use Rattle.settings.specs.Sizes.{firstThree, question2, maxMoves, workerWords}
 use Rattle.words.specs.Digits.{depths}
 use Rattle.settings.specs.declared.Settings.{Settings}
-use Rattle.settings.proofs.Laws.{three-yes, sized}
+use Rattle.settings.proofs.Laws.{three-yes}
 use Rattle.areas.specs.Memory.{memory, Areas, areas}
 use Rattle.record.specs.declared.Answer.the-variants.{Nothing}
 use Rattle.record.specs.declared.Reply.{Reply}
@@ -26,23 +25,18 @@ use Rattle.record.specs.Fits.{fits, fitsBy, callFits}
 use Rattle.record.proofs.Pieces.{length-first}
 use Rattle.record.proofs.Tests.{fits-idle}
 use Rattle.rules.specs.Asked.{question4, question7}
-use Rattle.rules.specs.Operations.{Result, result, reply, refused, unlessRefused, taken, full, turn}
+use Rattle.rules.specs.Operations.{Result, result, reply, refused, turn}
 use Rattle.rules.specs.Lists.{state}
 use Rattle.table.specs.Cut.{firstFour}
 use Rattle.table.proofs.Questions.{both-zero}
 use Rattle.turns.specs.declared.Done.{Done}
-use Rattle.turns.specs.Cut.{triedOf, finished, idleReply, turnHere, doneOf, Did, did, didBy, didHere, replyOf}
+use Rattle.turns.specs.Cut.{triedOf, finished, idleReply, turnHere, doneOf, did, didBy, didHere}
 use Rattle.turns.proofs.OneCut.{turn-cut}
-use Rattle.turns.proofs.Three.{Three, SameSizes, sizes-stay}
+use Rattle.turns.proofs.Three.{Three}
 
 -- questions 1 to 3 as the code asks them
 pub three-of : (w : ℕ) (s : Settings) (n g k : List ℕ) → firstThree w s (length n) (length g) (length k) ≡ 0 → Three w (s .workers) (state s (areas n g k))
 three-of w s n g k e = let y = three-yes w s (length n) (length g) (length k) e in record { crew-is = refl; one = y .0; two = y .1; three = y .2 }
-
--- a turn's reply counts no turns
-turn-turns : (w : ℕ) (s : Settings) (i : ℕ) (a : Areas) → turn w s i a .reply .turns ≡ 0
-unfolding turn full unlessRefused taken
-turn-turns w s i a = pick-both (λ (x : Result). x .reply .turns ≡ 0) _ (λ e. refl) (λ e. pick-both (λ (x : Result). x .reply .turns ≡ 0) _ (λ f. refl) (λ f. refl))
 
 -- a record that fits with a searching kind has no Moves
 no-moves : (w : ℕ) (s : Settings) (l : List ℕ) (i : ℕ) → fits w s (load w l i) ≡ true → 1 ≤ kindNo (headAt w l i .kind) → kindNo (headAt w l i .kind) ≤ 10 → load w l i ≡ record′ (headAt w l i) []
@@ -94,29 +88,6 @@ module _ (w : ℕ) (s : Settings) (i : ℕ) (n g l : List ℕ) where
   pub here-turn : {q : ℕ} → q ≡ firstFour w s i (length n) (length g) (length l) → q ≡ 0 → turnHere w s i (areas n g l) ≡ turn w s i (areas n g l)
   here-turn e z = sym (pick-true _ _ _ (eq-eqb _ _ (sym e ∙ z))) ∙ turn-cut w s i (areas n g l)
 
-  pub turn-idle : {r : Reply} {b : Bool} {c q : ℕ} → r ≡ idleReply s c → c ≡ headAt w l i .answer → b ≡ eqb (kindNo (headAt w l i .kind)) 0 → b ≡ true → q ≡ firstFour w s i (length n) (length g) (length l) → q ≡ 0 → result r (areas n g l) ≡ turn w s i (areas n g l)
-  turn-idle a e q z f y = here-idle a e q z ∙ here-turn f y
-
-  -- the reply from what was handed on of it
-  reply-again : (r : Reply) → r .turns ≡ 0 → SameSizes s (r .settings) → replyOf s (doneOf r) ≡ r
-  unfolding replyOf doneOf counted
-  reply-again r z k = rw (← k .workers-is, ← k .limit-is, ← k .nodes-is, ← z) refl
-
-  four-cut : pick (eqb (firstThree w s (length n) (length g) (length l)) 0) (pick (question4 s i) 0 4) (firstThree w s (length n) (length g) (length l)) ≡ firstFour w s i (length n) (length g) (length l)
-  unfolding firstFour
-  four-cut = refl
-
-  pub turn-open : {r : Reply} {d : Done} {b : Areas} {q : ℕ} → r ≡ replyOf s d → did d b ≡ didHere w s i (areas n g l) → q ≡ firstFour w s i (length n) (length g) (length l) → q ≡ 0 → result r b ≡ turn w s i (areas n g l)
-  unfolding didBy
-  turn-open {r} {d} {b} a e f z =
-      let h : turnHere w s i (areas n g l) ≡ turn w s i (areas n g l) = here-turn f z in
-      let y = both-zero (firstThree w s (length n) (length g) (length l)) _ (four-cut ∙ sym f ∙ z) .0 in
-      let k : SameSizes s (turn w s i (areas n g l) .reply .settings) = sizes-stay w (state s (areas n g l)) i (three-of w s n g l y) in
-      let p : d ≡ doneOf (turn w s i (areas n g l) .reply) = ap (λ (u : Did). u .done) e ∙ ap (λ (u : Result). doneOf (u .reply)) h in
-      let m : b ≡ turn w s i (areas n g l) .areas = ap (λ (u : Did). u .areas) e ∙ ap (λ (u : Result). u .areas) h in
-      let v : r ≡ turn w s i (areas n g l) .reply = a ∙ ap (replyOf s) p ∙ reply-again _ (turn-turns w s i (areas n g l)) k in
-      rw (v, m) refl
-
   pub turn-refused : {r : Reply} {q : ℕ} → r ≡ reply q Nothing 0 s → q ≡ firstFour w s i (length n) (length g) (length l) → (q ≡ 0 → ⊥) → result r (areas n g l) ≡ turn w s i (areas n g l)
   turn-refused {r} {q} a e z =
       let y : firstFour w s i (length n) (length g) (length l) ≢ 0 = λ u. z (e ∙ u) in
@@ -128,25 +99,10 @@ module _ (w : ℕ) (s : Settings) (i : ℕ) (a : Areas) where
   unfolding didBy
   did-here {d} {r} {b} e f = rw e (ap didBy f)
 
-pub done-is : (r : Reply) → record { number = r .number; answer = r .answer; «nodes_taken» = r .settings .«nodes_taken»; «levels_taken» = r .settings .«levels_taken» } ≡ doneOf r
+pub done-is : (r : Reply) → record { number = r .number; «nodes_taken» = r .settings .«nodes_taken»; «levels_taken» = r .settings .«levels_taken» } ≡ doneOf r
 unfolding doneOf
 done-is r = refl
 
-pub reply-is : (s : Settings) (d : Done) {r : Reply} {n : Settings} → r ≡ reply (d .number) (d .answer) 0 n → n ≡ counted s (d .«nodes_taken») (d .«levels_taken») → r ≡ replyOf s d
-unfolding replyOf
-reply-is s d e f = rw (e, f) refl
-
--- an idle worker's reply
-module _ (s : Settings) (c : ℕ) where
-  pub idle-eight : {r : Reply} {b : Bool} → r ≡ reply 8 Nothing 0 s → b ≡ leb c 3 → b ≡ true → r ≡ idleReply s c
-  unfolding idleReply
-  idle-eight a e y = a ∙ sym (pick-true _ _ _ (sym e ∙ y))
-
-  pub idle-six : {r : Reply} {b : Bool} → r ≡ reply 6 Nothing 0 s → b ≡ leb c 3 → b ≡ false → r ≡ idleReply s c
-  unfolding idleReply
-  idle-six a e y = a ∙ sym (pick-false _ _ _ (sym e ∙ y))
-
--- a worker that is not idle, and the head that was read of it
 module _ (w : ℕ) (l : List ℕ) (i : ℕ) where
   pub not-idle : {b : Bool} → b ≡ eqb (kindNo (headAt w l i .kind)) 0 → b ≡ false → 1 ≤ kindNo (headAt w l i .kind)
   not-idle q z = let y : kindNo (headAt w l i .kind) ≢ 0 = eqb-false _ _ (sym q ∙ z) in omega arith
@@ -162,7 +118,7 @@ three-inside s i n g k e h =
     let q : 128 * s .workers ≤ k = leb-true _ _ (both-right _ _ (both-right _ _ (y .1))) in
     omega arith
 
-four-yes : (b : Bool) → _≡_ {A = ℕ} (pick b 0 4) 0 → b ≡ true
+pub four-yes : (b : Bool) → _≡_ {A = ℕ} (pick b 0 4) 0 → b ≡ true
 unfolding pick
 four-yes true e = refl
 four-yes false e = absurd (omega arith)
@@ -172,8 +128,3 @@ unfolding firstFour question4
 four-inside s i n g k a e =
     let (y, z) = both-zero (firstThree 3 s n g k) _ (sym a ∙ e) in
     three-inside s i n g k y (ltb-true _ _ (four-yes _ z))
-
--- a yes to questions 1 to 4: the settings have their sizes
-pub four-sized : (s : Settings) (i n g k : ℕ) {q : ℕ} → q ≡ firstFour 3 s i n g k → q ≡ 0 → Sized s
-unfolding firstFour
-four-sized s i n g k a e = sized s n g k (both-zero (firstThree 3 s n g k) _ (sym a ∙ e) .0)

@@ -3,7 +3,6 @@
 use Prim.Native.Nat.{ℕ}
 use lib.Dec.{eqb, leb}
 use Rattle.words.specs.Choice.{pick}
-use Rattle.settings.specs.Cut.{counted}
 use Rattle.settings.specs.declared.Settings.{Settings}
 use Rattle.areas.specs.Memory.{Areas, areas, Memory}
 use Rattle.record.specs.declared.Answer.the-variants.{Nothing}
@@ -41,9 +40,9 @@ turnHere w s i a =
     (pick (question7 (recordOf w a i)) (refused 8 s a) (finished w (triedOf w s (recordOf w a i) (memoryOf a)) i s a))
     (refused 6 s a)
 
--- what is handed on of a turn's reply, with the areas; and the reply again, from the settings that the turn was handed
+-- what is handed on of a turn's reply, with the areas
 unfoldable pub doneOf : Reply → Done
-doneOf r = record { number = r .number; answer = r .answer; «nodes_taken» = r .settings .«nodes_taken»; «levels_taken» = r .settings .«levels_taken» }
+doneOf r = record { number = r .number; «nodes_taken» = r .settings .«nodes_taken»; «levels_taken» = r .settings .«levels_taken» }
 
 pub record Did : Type 0 where
   pub done : Done
@@ -57,6 +56,3 @@ didBy x = did (doneOf (x .reply)) (x .areas)
 
 abbrev pub didHere : ℕ → Settings → ℕ → Areas → Did
 didHere w s i a = didBy (turnHere w s i a)
-
-unfoldable pub replyOf : Settings → Done → Reply
-replyOf s d = reply (d .number) (d .answer) 0 (counted s (d .«nodes_taken») (d .«levels_taken»))

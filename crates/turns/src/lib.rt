@@ -1,5 +1,5 @@
-// One turn: a public operation with no `requires`, whose contract is one equation.
-// Relies on worker and mover for the turns, on record for the worker's words, on table for questions 1 to 4.
+// A turn of a worker with a call open, once questions 1 to 4 are answered yes: the record is loaded, its kind's method is called, what it leaves is stored.
+// Relies on worker and mover for the turns, on record for the worker's words, on table for replies.
 ghost use mathlib.Core.Path.{_≡_};
 ghost use mathlib.Core.Bool.{true};
 ghost use mathlib.Core.List.{[]};
@@ -10,24 +10,19 @@ ghost use Rattle.areas.specs.Memory.{areas, memory};
 ghost use Rattle.record.specs.Kinds.{kindNo};
 ghost use Rattle.record.specs.Layout.{record′, load, headAt, store};
 ghost use Rattle.record.specs.Fits.{fits};
-ghost use Rattle.rules.specs.Operations.{result, turn};
+ghost use Rattle.rules.specs.Operations.{result};
 ghost use Rattle.steps.specs.Cut.{begun};
-ghost use Rattle.turns.specs.Cut.{triedOf, finished, idleReply, turnHere, doneOf, did, didHere, replyOf};
+ghost use Rattle.turns.specs.Cut.{triedOf, finished, turnHere, doneOf, did, didHere};
 use mover::Mover;
-use record::Answer;
 use record::Head;
 use record::Move;
 use record::Reply;
-use record::answer_at;
-use record::idle_at;
-use record::idle_fits;
 use record::inside;
 use record::kind_no;
 use record::move_fits;
 use record::search_fits;
 use settings::Settings;
 use table::refusal;
-use table::refused_worker;
 use table::replied;
 use worker::Turned;
 use worker::Worker;
@@ -146,10 +141,9 @@ fn move_here(
     }
 }
 
-// What a turn gives, of the settings only what it can change.
+// What a turn gives: its number, and of the settings what it can change. Its answer stands in the record.
 pub struct Done {
     pub number: u32,
-    pub answer: Answer,
     pub nodes_taken: u32,
     pub levels_taken: u32,
 }
@@ -157,11 +151,9 @@ pub struct Done {
 fn done_of(r: Reply) -> Done
     ensures { λ d. ⌜ d ≡ doneOf r ⌝ }
 {
-    let a = r.answer;
     let s = r.settings;
     Done {
         number: r.number,
-        answer: a,
         nodes_taken: s.nodes_taken,
         levels_taken: s.levels_taken,
     }
@@ -199,48 +191,5 @@ pub fn open_here(
         }
     } else {
         done_of(refusal(6, s))
-    }
-}
-
-// An idle worker's turn, by the number of its last answer: 6 where the record does not fit, else 8.
-fn idle_here(s: Settings, answer: u32) -> Reply
-    ensures { λ r. ⌜ r ≡ idleReply s answer ⌝ }
-{
-    if idle_fits(answer) {
-        refusal(8, s)
-    } else {
-        refusal(6, s)
-    }
-}
-
-// The reply of a turn, with the settings that it was handed but for their counts.
-fn reply_of(s: Settings, d: Done) -> Reply
-    ensures { λ r. ⌜ r ≡ replyOf s d ⌝ }
-{
-    let n = s.with_counts(d.nodes_taken, d.levels_taken);
-    let a = d.answer;
-    replied(d.number, a, n)
-}
-
-// One turn of worker i.
-pub fn turn(
-    s: Settings,
-    i: u32,
-    nodes: &mut [u32],
-    levels: &mut [u32],
-    workers: &mut [u32],
-) -> Reply
-    ensures { λ r. ⌜ result r (areas (now (nodes .exit)) (now (levels .exit)) (now (workers .exit))) ≡ turn 3 s i (areas (now (nodes .entry)) (now (levels .entry)) (now (workers .entry))) ⌝ }
-{
-    let q = refused_worker(s, i, nodes, levels, workers);
-    if q == 0 {
-        if idle_at(workers, i) {
-            idle_here(s, answer_at(workers, i))
-        } else {
-            let d = open_here(s, i, nodes, levels, workers);
-            reply_of(s, d)
-        }
-    } else {
-        refusal(q, s)
     }
 }

@@ -1,0 +1,21 @@
+-- `lists::number_told` meets its contract.
+-- Relies on One.
+use Rattle.lists.proofs.One.{number-ended, number-full, number-open}
+use borrow.Author.Needs.{needs}
+use Rattle.lists.proofs.number_told.Statement.{statement}
+use Rattle.lists.proofs.number_told.Tie as tie
+
+kind-no-requires : tie.Need-kind-no-requires
+kind-no-requires c κs = search needs
+
+returns : tie.Need-returns
+returns c = search (needs, number-full)
+
+returns-2 : tie.Need-returns-2
+returns-2 c = search (needs, number-ended)
+
+returns-3 : tie.Need-returns-3
+returns-3 c = search (needs, number-open)
+
+pub number-told-spec : {M : Type 1} → statement M
+number-told-spec = tie.close (tie.spec kind-no-requires returns returns-2 returns-3)
