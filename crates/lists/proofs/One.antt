@@ -18,7 +18,7 @@ use Rattle.settings.specs.Sizes.{firstThree, question1, question3, workerWords,
 use Rattle.settings.specs.declared.Settings.{Settings}
 use Rattle.areas.specs.Memory.{Areas, areas}
 use Rattle.record.specs.declared.Answer.{Answer}
-use Rattle.record.specs.declared.Answer.the-variants.{Nothing, Open}
+use Rattle.record.specs.declared.Answer.the-variants.{Nothing}
 use Rattle.record.specs.declared.Head.{Head}
 use Rattle.record.specs.declared.Reply.{Reply}
 use Rattle.record.specs.Kinds.{kindNo, answerOf}
@@ -33,34 +33,26 @@ use Rattle.rules.specs.Acts.{act}
 use Rattle.rules.proofs.OneTurn.{turn-number, done-number, nine-is-full, turn-refused}
 use Rattle.rules.proofs.Questions.{first-later}
 use Rattle.settings.proofs.Laws.{sized}
-use Rattle.table.specs.Cut.{firstFour}
+use Rattle.table.specs.Cut.{firstFour, answerIn}
 use Rattle.table.proofs.Questions.{both-zero}
 use Rattle.turns.proofs.Ways.{four-yes, four-inside}
 use Rattle.lists.specs.declared.Tally.{Tally}
-use Rattle.lists.specs.Cut.{Run, run, countedBy, ranOf, ranBy, ranEntry, ranList, numberBy, toldBy, oneReply}
+use Rattle.lists.specs.Cut.{Run, run, countedBy, ranOf, ranBy, ranEntry, ranList, numberBy, oneReply}
 use Rattle.lists.proofs.Tells.{Tells, act-tells, head-stored}
 
 -- the ways through its functions
 module _ (h : Head) where
-  pub number-full : {k : ℕ} → k ≡ kindNo (h .kind) → k ≡ 0 → h .answer ≡ 3 → 9 ≡ numberBy h
+  pub number-full : {b : Bool} → b ≡ eqb (kindNo (h .kind)) 0 → b ≡ true → h .answer ≡ 3 → 9 ≡ numberBy h
   unfolding numberBy
-  number-full e z y = sym (pick-true _ _ _ (eq-eqb _ _ (sym e ∙ z)) ∙ pick-true _ _ _ (eq-eqb _ _ y))
+  number-full e z y = sym (pick-true _ _ _ (sym e ∙ z) ∙ pick-true _ _ _ (eq-eqb _ _ y))
 
-  pub number-ended : {k : ℕ} → k ≡ kindNo (h .kind) → k ≡ 0 → (h .answer ≡ 3 → ⊥) → 0 ≡ numberBy h
+  pub number-ended : {b : Bool} → b ≡ eqb (kindNo (h .kind)) 0 → b ≡ true → (h .answer ≡ 3 → ⊥) → 0 ≡ numberBy h
   unfolding numberBy
-  number-ended e z y = sym (pick-true _ _ _ (eq-eqb _ _ (sym e ∙ z)) ∙ pick-false _ _ _ (ne-eqb _ _ y))
+  number-ended e z y = sym (pick-true _ _ _ (sym e ∙ z) ∙ pick-false _ _ _ (ne-eqb _ _ y))
 
-  pub number-open : {k : ℕ} → k ≡ kindNo (h .kind) → (k ≡ 0 → ⊥) → 0 ≡ numberBy h
+  pub number-open : {b : Bool} → b ≡ eqb (kindNo (h .kind)) 0 → b ≡ false → 0 ≡ numberBy h
   unfolding numberBy
-  number-open e z = sym (pick-false _ _ _ (ne-eqb _ _ (λ y. z (e ∙ y))))
-
-  pub told-ended : {k : ℕ} {a : Answer} → a ≡ answerOf (h .answer) (h .«answer_node») → k ≡ kindNo (h .kind) → k ≡ 0 → a ≡ toldBy h
-  unfolding toldBy
-  told-ended a e z = a ∙ sym (pick-true _ _ _ (eq-eqb _ _ (sym e ∙ z)))
-
-  pub told-open : {k : ℕ} → k ≡ kindNo (h .kind) → (k ≡ 0 → ⊥) → Open ≡ toldBy h
-  unfolding toldBy
-  told-open e z = sym (pick-false _ _ _ (ne-eqb _ _ (λ y. z (e ∙ y))))
+  number-open e z = sym (pick-false _ _ _ (sym e ∙ z))
 
   module _ (s : Settings) (t : Tally) where
     pub one-six : {r : Reply} → r ≡ reply 6 Nothing 0 s → t .number ≡ 6 → r ≡ oneReply s t h
@@ -69,7 +61,7 @@ module _ (h : Head) where
 
     pub one-done :
         {r : Reply} {n : ℕ} {a : Answer} {c : Settings}
-        → r ≡ reply n a 0 c → n ≡ numberBy h → a ≡ toldBy h → c ≡ countedBy s t → (t .number ≡ 6 → ⊥) → t .left ≡ 0 → r ≡ oneReply s t h
+        → r ≡ reply n a 0 c → n ≡ numberBy h → a ≡ answerIn h → c ≡ countedBy s t → (t .number ≡ 6 → ⊥) → t .left ≡ 0 → r ≡ oneReply s t h
     unfolding oneReply
     one-done p a b c e z = p ∙ rw (a, b, c) (sym (pick-false _ _ _ (ne-eqb _ _ e) ∙ pick-true _ _ _ (eq-eqb _ _ z)))
 
@@ -128,7 +120,7 @@ module _ (w : ℕ) (s : Settings) (i : ℕ) (a : Areas) where
 
   -- the record tells the reply of a turn that was done
   abbrev Told : Result → Type 0
-  Told r = r .reply ≡ reply (numberBy (headAt w (r .areas .workers) i)) (toldBy (headAt w (r .areas .workers) i)) 0 (r .reply .settings)
+  Told r = r .reply ≡ reply (numberBy (headAt w (r .areas .workers) i)) (answerIn (headAt w (r .areas .workers) i)) 0 (r .reply .settings)
 
   taken-told : workerPlace w i + 10 ≤ length (a .workers) → question8 (recordOf w a i) ≡ true → Told (taken w (act w s (recordOf w a i) (memoryOf a)) i (a .workers))
   unfolding taken
@@ -139,7 +131,7 @@ module _ (w : ℕ) (s : Settings) (i : ℕ) (a : Areas) where
       rw (h, k .number-is, k .answer-is) refl
 
   full-told : workerPlace w i + 10 ≤ length (a .workers) → Told (full w s i a)
-  unfolding full fullRecord numberBy toldBy ended kindNo answerOf pick
+  unfolding full fullRecord numberBy answerIn ended kindNo answerOf pick
   full-told room =
       let h : headAt w (store w (fullRecord (recordOf w a i .head)) i (a .workers)) i ≡ fullRecord (recordOf w a i .head) .head =
       head-stored w i (fullRecord (recordOf w a i .head)) (a .workers) room
@@ -193,8 +185,8 @@ module _ (w : ℕ) (s : Settings) (i : ℕ) (a : Areas) where
         let d : h ≡ headAt w (its .areas .workers) i = f ∙ ap (λ (y : Areas). headAt w (y .workers) i) v in
         let u : r ≡ its .reply =
         e ∙ (pick-false _ _ _ (ne-eqb (t .number) 6 (λ z. omega arith)) ∙ (pick-true _ _ _ (eq-eqb _ _ o)
-        ∙ (ap (λ (y : Head). reply (numberBy y) (toldBy y) 0 (countedBy s t)) d
-        ∙ (ap (λ (y : Settings). reply (numberBy (headAt w (its .areas .workers) i)) (toldBy (headAt w (its .areas .workers) i)) 0 y) c ∙ sym told))))
+        ∙ (ap (λ (y : Head). reply (numberBy y) (answerIn y) 0 (countedBy s t)) d
+        ∙ (ap (λ (y : Settings). reply (numberBy (headAt w (its .areas .workers) i)) (answerIn (headAt w (its .areas .workers) i)) 0 y) c ∙ sym told))))
         in
         rw (u, v) refl
 

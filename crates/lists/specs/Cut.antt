@@ -8,13 +8,13 @@ use Rattle.words.specs.Choice.{pick}
 use Rattle.settings.specs.Cut.{counted}
 use Rattle.settings.specs.declared.Settings.{Settings}
 use Rattle.areas.specs.Memory.{Areas}
-use Rattle.record.specs.declared.Answer.{Answer}
-use Rattle.record.specs.declared.Answer.the-variants.{Nothing, Open}
+use Rattle.record.specs.declared.Answer.the-variants.{Nothing}
 use Rattle.record.specs.declared.Head.{Head}
 use Rattle.record.specs.declared.Reply.{Reply}
-use Rattle.record.specs.Kinds.{kindNo, answerOf}
+use Rattle.record.specs.Kinds.{kindNo}
 use Rattle.rules.specs.Operations.{Result, result, reply, turn}
 use Rattle.rules.specs.Lists.{State, state, after}
+use Rattle.table.specs.Cut.{answerIn}
 use Rattle.turns.specs.declared.Done.{Done}
 use Rattle.lists.specs.declared.Tally.{Tally}
 
@@ -71,16 +71,13 @@ openTally t d =
 unfoldable pub overOf : Tally → Bool
 overOf t = pick (eqb (t .left) 0) true (pick (eqb (t .number) 0) false true)
 
--- what a turn that was done has answered, as its worker's head tells it: the number and the answer
+-- the number of a turn that was done, as its worker's head tells it; the answer is that of the head
 unfoldable pub numberBy : Head → ℕ
 numberBy h = pick (eqb (kindNo (h .kind)) 0) (pick (eqb (h .answer) 3) 9 0) 0
-
-unfoldable pub toldBy : Head → Answer
-toldBy h = pick (eqb (kindNo (h .kind)) 0) (answerOf (h .answer) (h .«answer_node»)) Open
 
 -- the reply of one turn, from the tally of a list of it alone and the worker's head after it
 unfoldable pub oneReply : Settings → Tally → Head → Reply
 oneReply s t h =
     pick (eqb (t .number) 6)
     (reply 6 Nothing 0 s)
-    (pick (eqb (t .left) 0) (reply (numberBy h) (toldBy h) 0 (countedBy s t)) (reply 8 Nothing 0 s))
+    (pick (eqb (t .left) 0) (reply (numberBy h) (answerIn h) 0 (countedBy s t)) (reply 8 Nothing 0 s))

@@ -13,16 +13,16 @@ ghost use Rattle.record.specs.Layout.{headAt};
 ghost use Rattle.rules.specs.Operations.{result, reply, turn};
 ghost use Rattle.table.specs.Cut.{firstFour};
 ghost use Rattle.rules.specs.Lists.{state, turns};
-ghost use Rattle.lists.specs.Cut.{run, countedBy, ranOf, tally, idleTally, openTally, overOf, ranEntry, ranList, numberBy, toldBy, oneReply};
+ghost use Rattle.lists.specs.Cut.{run, countedBy, ranOf, tally, idleTally, openTally, overOf, ranEntry, ranList, numberBy, oneReply};
 use record::Answer;
 use record::Head;
 use record::Reply;
 use record::answer_at;
-use record::answer_of;
 use record::idle_at;
 use record::idle_fits;
-use record::kind_no;
 use settings::Settings;
+use table::answer_in;
+use table::is_idle;
 use table::refusal;
 use table::refused_worker;
 use table::replied;
@@ -226,23 +226,10 @@ pub fn turns(
 fn number_told(h: Head) -> u32
     ensures { λ r. ⌜ r ≡ numberBy h ⌝ }
 {
-    let k = h.kind;
-    if kind_no(k) == 0 {
+    if is_idle(h) {
         if h.answer == 3 { 9 } else { 0 }
     } else {
         0
-    }
-}
-
-// Its answer.
-fn told(h: Head) -> Answer
-    ensures { λ r. ⌜ r ≡ toldBy h ⌝ }
-{
-    let k = h.kind;
-    if kind_no(k) == 0 {
-        answer_of(h.answer, h.answer_node)
-    } else {
-        Answer::Open
     }
 }
 
@@ -256,7 +243,7 @@ fn one_reply(s: Settings, t: Tally, h: Head) -> Reply
         if t.left == 0 {
             replied(
                 number_told(h),
-                told(h),
+                answer_in(h),
                 s.with_counts(t.nodes_taken, t.levels_taken),
             )
         } else {

@@ -189,7 +189,7 @@ pub fn start(
 }
 
 // The answer that a record holds.
-fn answer_in(h: Head) -> Answer
+pub fn answer_in(h: Head) -> Answer
     ensures { λ r. ⌜ r ≡ answerIn h ⌝ }
 {
     let a = answer_of(h.answer, h.answer_node);

@@ -5,8 +5,8 @@ use borrow.Author.Needs.{needs}
 use Rattle.lists.proofs.number_told.Statement.{statement}
 use Rattle.lists.proofs.number_told.Tie as tie
 
-kind-no-requires : tie.Need-kind-no-requires
-kind-no-requires c κs = search needs
+is-idle-requires : tie.Need-is-idle-requires
+is-idle-requires c κs = search needs
 
 returns : tie.Need-returns
 returns c = search (needs, number-full)
@@ -18,4 +18,4 @@ returns-3 : tie.Need-returns-3
 returns-3 c = search (needs, number-open)
 
 pub number-told-spec : {M : Type 1} → statement M
-number-told-spec = tie.close (tie.spec kind-no-requires returns returns-2 returns-3)
+number-told-spec = tie.close (tie.spec is-idle-requires returns returns-2 returns-3)

@@ -11,8 +11,8 @@ refusal-requires c κs = search needs
 number-told-requires : tie.Need-number-told-requires
 number-told-requires c κs = search needs
 
-told-requires : tie.Need-told-requires
-told-requires c κs = search needs
+answer-in-requires : tie.Need-answer-in-requires
+answer-in-requires c κs = search needs
 
 with-counts-requires : tie.Need-with-counts-requires
 with-counts-requires c κs = search needs
@@ -38,7 +38,7 @@ one-reply-spec =
     (tie.spec
     refusal-requires
     number-told-requires
-    told-requires
+    answer-in-requires
     with-counts-requires
     replied-requires
     refusal-requires-2
