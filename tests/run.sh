@@ -3,9 +3,8 @@
 set -eu
 cd "$(dirname "$0")/.."
 sh tests/readers_guide.sh
-# The tests need the library and the program. rt check proves two crates at a time where rt staticlib would prove one after the other.
-rt check export leafdrum
-rt staticlib export
+# The tests need the library and the program: they are built from the records of the check. A record that does not match fails here. rt ci trusts none.
+sh tools/build.sh
 out=${TMPDIR:-/var/tmp}/leafdrum-tests
 mkdir -p "$out"
 gcc -O2 -Wall -Wextra -Werror examples/embed.c target/staticlib/libexport.a -o "$out/embed"

@@ -15,7 +15,7 @@ def program():
     src = os.path.join(ROOT, "tools/words.c")
     out = os.path.join(os.environ.get("TMPDIR", "/var/tmp"), "leafdrum-words")
     if not os.path.exists(lib):
-        subprocess.run(["rt", "staticlib", "export"], cwd=ROOT, check=True, stdout=2)
+        subprocess.run(["sh", "tools/build.sh"], cwd=ROOT, check=True, stdout=2)
     if not os.path.exists(out) or os.path.getmtime(out) < max(os.path.getmtime(lib), os.path.getmtime(src)):
         subprocess.run(["gcc", "-O2", "-Wall", "-Wextra", src, lib, "-o", out], check=True)
     return out
