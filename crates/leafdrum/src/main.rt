@@ -2,12 +2,12 @@
 // Relies on run for what is printed, on text for its bytes, on io for reading and writing.
 ghost use mathlib.Core.Path.{_≡_};
 ghost use lib.ListN.{take};
-ghost use Rattle.text.specs.Printing.{bytesOf};
+ghost use Rattle.printing.specs.Printing.{bytesOf};
+use printing::Printed;
+use printing::spell;
 use run::begin;
 use run::goes_on;
 use run::next;
-use text::Printed;
-use text::spell;
 
 // The n bytes that spell x are written.
 fn put_bytes(x: Printed, out: &[u8; 64], n: usize)

@@ -21,8 +21,8 @@ use Rattle.rules.specs.Lists.{state}
 use Rattle.text.specs.declared.Command.{Command}
 use Rattle.text.specs.declared.Command.the-variants.{Sizes, Starts, Turns, Unread}
 use Rattle.text.proofs.Command.{the-type}
-use Rattle.text.specs.declared.Printed.{Printed}
-use Rattle.text.specs.declared.Printed.the-variants.{Nothing, Refused}
+use Rattle.printing.specs.declared.Printed.{Printed}
+use Rattle.printing.specs.declared.Printed.the-variants.{Nothing, Refused}
 use Rattle.run.specs.Program.{Line, line, startLine, turnPrints, turnLine, carried, firstLine}
 
 -- the operation's result, and what is printed of its reply

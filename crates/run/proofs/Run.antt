@@ -6,7 +6,7 @@ use mathlib.Core.List.{List, [], _∷_}
 use Prim.Native.Nat.{ℕ, _<_}
 use Rattle.words.proofs.Choice.{true-false}
 use Rattle.areas.specs.Memory.{Areas}
-use Rattle.text.specs.declared.Printed.{Printed}
+use Rattle.printing.specs.declared.Printed.{Printed}
 use Rattle.run.specs.declared.Stage.{Stage}
 use Rattle.run.specs.declared.Stage.the-variants.{Begin, TooLong, First, Lines, Last, Done}
 use Rattle.run.specs.declared.Progress.{Progress}

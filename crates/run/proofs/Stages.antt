@@ -22,8 +22,8 @@ use Rattle.text.specs.Parts.{split}
 use Rattle.text.specs.Commands.{command}
 use Rattle.text.specs.declared.Command.{Command}
 use Rattle.text.specs.Cut.{upTo, past, has}
-use Rattle.text.specs.declared.Printed.{Printed}
-use Rattle.text.specs.declared.Printed.the-variants.{Nothing, Header, Refused, End}
+use Rattle.printing.specs.declared.Printed.{Printed}
+use Rattle.printing.specs.declared.Printed.the-variants.{Nothing, Header, Refused, End}
 use Rattle.text.proofs.Parts.{split-has, split-none, split-more, past-drop}
 use Rattle.text.proofs.Ways.{has-place}
 use Rattle.run.specs.declared.Stage.{Stage}

@@ -14,11 +14,11 @@ use Rattle.rules.specs.Operations.{Result, refused, recordOf, opening, start, t
 use Rattle.rules.specs.Lists.{State, after}
 use Rattle.text.specs.Parts.{lineEnd, split}
 use Rattle.text.specs.Commands.{command}
-use Rattle.text.specs.Printing.{bytesOf}
+use Rattle.printing.specs.Printing.{bytesOf}
 use Rattle.text.specs.declared.Command.{Command}
 use Rattle.text.specs.declared.Command.the-variants.{Sizes, Starts, Turns, Unread}
-use Rattle.text.specs.declared.Printed.{Printed}
-use Rattle.text.specs.declared.Printed.the-variants.{Nothing, Header, New, Found, Full, Refused, End}
+use Rattle.printing.specs.declared.Printed.{Printed}
+use Rattle.printing.specs.declared.Printed.the-variants.{Nothing, Header, New, Found, Full, Refused, End}
 
 -- what a line prints, and the state that it leaves
 pub record Line : Type 0 where

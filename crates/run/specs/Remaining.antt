@@ -10,8 +10,8 @@ use Rattle.settings.specs.declared.Settings.{Settings}
 use Rattle.areas.specs.Memory.{Areas}
 use Rattle.rules.specs.Lists.{state}
 use Rattle.text.specs.Parts.{lineEnd, split}
-use Rattle.text.specs.declared.Printed.{Printed}
-use Rattle.text.specs.declared.Printed.the-variants.{Nothing, Refused}
+use Rattle.printing.specs.declared.Printed.{Printed}
+use Rattle.printing.specs.declared.Printed.the-variants.{Nothing, Refused}
 use Rattle.run.specs.declared.Stage.{Stage}
 use Rattle.run.specs.declared.Stage.the-variants.{Begin, TooLong, First, Lines, Last, Done}
 use Rattle.run.specs.declared.Progress.{Progress}

@@ -2,4 +2,3 @@
 -- Relies on words.
 pub mod Parts
 pub mod Ways
-pub mod Spelling

@@ -1,6 +1,5 @@
--- The text format: lines, fields, numbers, what a line asks for, and what the program prints.
+-- The text format: lines, fields, numbers, and what a line asks for.
 -- Relies on words.
 pub mod Parts
 pub mod Commands
-pub mod Printing
 pub mod Cut

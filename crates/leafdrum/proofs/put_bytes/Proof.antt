@@ -3,7 +3,7 @@
 use mathlib.Core.Path.{sym, ap, _∙_}
 use native.Mathlib.Omega.{arith}
 use lib.ListN.{length}
-use Rattle.text.proofs.Spelling.{spelled-length}
+use Rattle.printing.proofs.Spelling.{spelled-length}
 use borrow.Author.Needs.{needs}
 use Rattle.leafdrum.proofs.put_bytes.Statement.{statement}
 use Rattle.leafdrum.proofs.put_bytes.Tie as tie

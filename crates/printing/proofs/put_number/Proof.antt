@@ -1,9 +1,9 @@
--- `text::put_number` meets its contract.
+-- `printing::put_number` meets its contract.
 -- Relies on the laws of bytes put one behind the other.
 use borrow.Author.Needs.{needs}
-use Rattle.text.proofs.Spelling.{number-put}
-use Rattle.text.proofs.put_number.Statement.{statement}
-use Rattle.text.proofs.put_number.Tie as tie
+use Rattle.printing.proofs.Spelling.{number-put}
+use Rattle.printing.proofs.put_number.Statement.{statement}
+use Rattle.printing.proofs.put_number.Tie as tie
 
 put-decimal-requires : tie.Need-put-decimal-requires
 put-decimal-requires c κs = search needs

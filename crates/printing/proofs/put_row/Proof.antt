@@ -1,9 +1,9 @@
--- `text::put_row` meets its contract.
+-- `printing::put_row` meets its contract.
 -- Relies on the pieces of a row.
 use borrow.Author.Needs.{needs}
-use Rattle.text.proofs.Spelling.{row-steps}
-use Rattle.text.proofs.put_row.Statement.{statement}
-use Rattle.text.proofs.put_row.Tie as tie
+use Rattle.printing.proofs.Spelling.{row-steps}
+use Rattle.printing.proofs.put_row.Statement.{statement}
+use Rattle.printing.proofs.put_row.Tie as tie
 
 put-call-requires : tie.Need-put-call-requires
 put-call-requires c κs = search needs

@@ -1,9 +1,9 @@
--- `text::put_pair` meets its contract.
+-- `printing::put_pair` meets its contract.
 -- Relies on the pieces of a line.
 use borrow.Author.Needs.{needs}
-use Rattle.text.proofs.Spelling.{pair-steps}
-use Rattle.text.proofs.put_pair.Statement.{statement}
-use Rattle.text.proofs.put_pair.Tie as tie
+use Rattle.printing.proofs.Spelling.{pair-steps}
+use Rattle.printing.proofs.put_pair.Statement.{statement}
+use Rattle.printing.proofs.put_pair.Tie as tie
 
 put-bytes-requires : tie.Need-put-bytes-requires
 put-bytes-requires c κs = search needs

@@ -1,4 +1,4 @@
--- `text::digits` meets its contract.
+-- `printing::digits` meets its contract.
 -- Relies on the laws of the digits.
 use mathlib.Core.Path.{_≡_}
 use mathlib.Core.List.{_++_}
@@ -6,10 +6,10 @@ use Prim.Native.Nat.{_+_, _≤_}
 use native.Mathlib.Omega.{arith}
 use lib.ListN.{length, drop, length-set}
 use borrow.Author.Needs.{needs}
-use Rattle.text.specs.Printing.{decimal, decimalIn}
-use Rattle.text.proofs.Spelling.{digits-none, digits-more, digits-one, digits-last}
-use Rattle.text.proofs.digits.Statement.{statement}
-use Rattle.text.proofs.digits.Tie as tie
+use Rattle.printing.specs.Printing.{decimal, decimalIn}
+use Rattle.printing.proofs.Spelling.{digits-none, digits-more, digits-one, digits-last}
+use Rattle.printing.proofs.digits.Statement.{statement}
+use Rattle.printing.proofs.digits.Tie as tie
 
 abbrev Inv-loop : tie.InvT-loop
 Inv-loop d₀ n i₀ m₀ d i m = (i ≤ 4) × (length d ≡ 5) × (decimalIn i m ++ drop (i + 1) d ≡ decimal n)

@@ -12,10 +12,10 @@ use lib.Dec.{ltb}
 use lib.ListN.{length, getD, set, take, drop, length-set, length-drop, length-append, length-take, drop-of-length-le}
 use lib.Seq.{take-suc, take-all, take-suc-set, drop-cons, drop-set-lt, getD-set-same, append-snoc}
 use Rattle.words.specs.Choice.{pick}
 use Rattle.text.specs.Parts.{ascii, comma, lineEnd}
-use Rattle.text.specs.Printing.{decimal, decimalIn, callBytes, bytesOf}
-use Rattle.text.specs.declared.Printed.{Printed}
-use Rattle.text.specs.declared.Printed.the-variants.{Nothing, Header, New, Found, Full, Refused, End}
+use Rattle.printing.specs.Printing.{decimal, decimalIn, callBytes, bytesOf}
+use Rattle.printing.specs.declared.Printed.{Printed}
+use Rattle.printing.specs.declared.Printed.the-variants.{Nothing, Header, New, Found, Full, Refused, End}
 
 -- put_bytes: no byte yet, one byte more, and all
 pub bytes-none : (o src : List ℕ) (at : ℕ) → take (at + 0) o ≡ take at o ++ take 0 src

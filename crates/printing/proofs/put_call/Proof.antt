@@ -1,9 +1,9 @@
--- `text::put_call` meets its contract.
+-- `printing::put_call` meets its contract.
 -- Relies on the pieces of a row.
 use borrow.Author.Needs.{needs}
-use Rattle.text.proofs.Spelling.{call-steps}
-use Rattle.text.proofs.put_call.Statement.{statement}
-use Rattle.text.proofs.put_call.Tie as tie
+use Rattle.printing.proofs.Spelling.{call-steps}
+use Rattle.printing.proofs.put_call.Statement.{statement}
+use Rattle.printing.proofs.put_call.Tie as tie
 
 put-number-requires : tie.Need-put-number-requires
 put-number-requires c κs = search needs

@@ -4,9 +4,9 @@ use Prim.Native.Nat.{ℕ, zero, suc, _+_, _/_, _%_}
 use mathlib.Core.List.{List, [], _∷_, _++_}
 use lib.Dec.{ltb}
 use Rattle.words.specs.Choice.{pick}
 use Rattle.text.specs.Parts.{ascii, comma, lineEnd}
-use Rattle.text.specs.declared.Printed.{Printed}
-use Rattle.text.specs.declared.Printed.the-variants.{Nothing, Header, New, Found, Full, Refused, End}
+use Rattle.printing.specs.declared.Printed.{Printed}
+use Rattle.printing.specs.declared.Printed.the-variants.{Nothing, Header, New, Found, Full, Refused, End}
 
 -- the last k + 1 digits of n, without zeros in front
 unfoldable pub decimalIn : ℕ → ℕ → List ℕ

@@ -1,12 +1,12 @@
--- `text::spell` meets its contract.
+-- `printing::spell` meets its contract.
 -- Relies on the bytes of each variant; the words of the code are those of the definition, by computing.
 use mathlib.Core.Path.{refl}
 use borrow.Author.Needs.{needs}
 use Rattle.text.specs.Parts.{ascii}
-use Rattle.text.specs.Printing.{bytesOf}
-use Rattle.text.proofs.Spelling.{told}
-use Rattle.text.proofs.spell.Statement.{statement}
-use Rattle.text.proofs.spell.Tie as tie
+use Rattle.printing.specs.Printing.{bytesOf}
+use Rattle.printing.proofs.Spelling.{told}
+use Rattle.printing.proofs.spell.Statement.{statement}
+use Rattle.printing.proofs.spell.Tie as tie
 
 enum-told : tie.Need-enum-told
 enum-told c = search needs

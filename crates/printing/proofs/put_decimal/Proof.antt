@@ -1,9 +1,9 @@
--- `text::put_decimal` meets its contract.
+-- `printing::put_decimal` meets its contract.
 -- Relies on the laws of the digits.
 use borrow.Author.Needs.{needs}
-use Rattle.text.proofs.Spelling.{decimal-put, decimal-end}
-use Rattle.text.proofs.put_decimal.Statement.{statement}
-use Rattle.text.proofs.put_decimal.Tie as tie
+use Rattle.printing.proofs.Spelling.{decimal-put, decimal-end}
+use Rattle.printing.proofs.put_decimal.Statement.{statement}
+use Rattle.printing.proofs.put_decimal.Tie as tie
 
 slice-aggregate-digits : tie.Need-slice-aggregate-digits
 slice-aggregate-digits c = search needs

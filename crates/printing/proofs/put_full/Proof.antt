@@ -1,10 +1,10 @@
--- `text::put_full` meets its contract.
+-- `printing::put_full` meets its contract.
 -- Relies on the pieces of a row.
 use borrow.Author.Needs.{needs}
 use Rattle.text.specs.Parts.{ascii}
-use Rattle.text.proofs.Spelling.{full-steps}
-use Rattle.text.proofs.put_full.Statement.{statement}
-use Rattle.text.proofs.put_full.Tie as tie
+use Rattle.printing.proofs.Spelling.{full-steps}
+use Rattle.printing.proofs.put_full.Statement.{statement}
+use Rattle.printing.proofs.put_full.Tie as tie
 
 put-call-requires : tie.Need-put-call-requires
 put-call-requires c κs = search needs

@@ -1,13 +1,13 @@
--- `text::put_bytes` meets its contract.
+-- `printing::put_bytes` meets its contract.
 -- Relies on the laws of bytes put one behind the other.
 use mathlib.Core.Path.{_≡_}
 use mathlib.Core.List.{_++_}
 use Prim.Native.Nat.{_+_, _-_, _≤_}
 use lib.ListN.{length, take, length-set}
 use borrow.Author.Needs.{needs}
-use Rattle.text.proofs.Spelling.{bytes-none, bytes-more, bytes-all}
-use Rattle.text.proofs.put_bytes.Statement.{statement}
-use Rattle.text.proofs.put_bytes.Tie as tie
+use Rattle.printing.proofs.Spelling.{bytes-none, bytes-more, bytes-all}
+use Rattle.printing.proofs.put_bytes.Statement.{statement}
+use Rattle.printing.proofs.put_bytes.Tie as tie
 
 abbrev Inv-loop : tie.InvT-loop
 Inv-loop out₀ at src k₀ out k = (k ≤ length src) × (length out ≡ length out₀) × (take (at + k) out ≡ take at out₀ ++ take k src)

@@ -1,0 +1,3 @@
+-- The laws of printed bytes that other crates use.
+-- Relies on text.
+pub mod Spelling

@@ -1,0 +1,3 @@
+-- What the program prints, as bytes.
+-- Relies on text.
+pub mod Printing
