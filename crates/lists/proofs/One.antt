@@ -23,6 +23,7 @@ use Rattle.record.specs.declared.Head.{Head}
 use Rattle.record.specs.declared.Reply.{Reply}
 use Rattle.record.specs.Kinds.{kindNo, answerOf}
 use Rattle.record.specs.Layout.{workerPlace, headAt, store}
+use Rattle.record.proofs.Records.{head-stored}
 use Rattle.rules.specs.Heads.{ended}
 use Rattle.rules.specs.Lists.{state, after}
 use Rattle.rules.specs.Operations.{Result, result, reply, refused, recordOf, memoryOf, full, fullRecord, taken, turn, turnQuestions, question2Of}
@@ -38,7 +39,7 @@ use Rattle.table.proofs.Questions.{both-zero}
 use Rattle.turns.proofs.Ways.{four-yes, four-inside}
 use Rattle.lists.specs.declared.Tally.{Tally}
 use Rattle.lists.specs.Cut.{Run, run, countedBy, ranOf, ranBy, ranEntry, ranList, numberBy, oneReply}
-use Rattle.lists.proofs.Tells.{Tells, act-tells, head-stored}
+use Rattle.lists.proofs.Tells.{Tells, act-tells}
 
 -- the ways through its functions
 module _ (h : Head) where
@@ -127,14 +128,14 @@ module _ (w : ℕ) (s : Settings) (i : ℕ) (a : Areas) where
   taken-told room q =
       let t : Step = act w s (recordOf w a i) (memoryOf a) in
       let k : Tells t = act-tells w s (recordOf w a i) (memoryOf a) q in
-      let h : headAt w (store w (t .record′) i (a .workers)) i ≡ t .record′ .head = head-stored w i (t .record′) (a .workers) room in
+      let h : headAt w (store w (t .record′) i (a .workers)) i ≡ t .record′ .head = head-stored w (t .record′) i (a .workers) room in
       rw (h, k .number-is, k .answer-is) refl
 
   full-told : workerPlace w i + 10 ≤ length (a .workers) → Told (full w s i a)
   unfolding full fullRecord numberBy answerIn ended kindNo answerOf pick
   full-told room =
       let h : headAt w (store w (fullRecord (recordOf w a i .head)) i (a .workers)) i ≡ fullRecord (recordOf w a i .head) .head =
-      head-stored w i (fullRecord (recordOf w a i .head)) (a .workers) room
+      head-stored w (fullRecord (recordOf w a i .head)) i (a .workers) room
       in
       rw h refl
 

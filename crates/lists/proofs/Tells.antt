@@ -6,12 +6,9 @@ use mathlib.Core.Bool.{true, false, not}
 use mathlib.Core.List.{List, [], _∷_}
 use native.Mathlib.Omega.{arith}
 use lib.Dec.{eqb}
-use lib.ListN.{length, getD}
 use borrow.Author.Tests.{ne-eqb}
 use Rattle.words.specs.Choice.{pick}
 use Rattle.words.proofs.Choice.{pick-both, true-false}
-use Rattle.words.proofs.Blocks.{below-sets}
-use Rattle.settings.specs.Sizes.{headWords, moveWords}
 use Rattle.settings.specs.declared.Settings.{Settings}
 use Rattle.areas.specs.Memory.{Memory, isNode}
 use Rattle.areas.specs.declared.Cell.{Cell}
@@ -21,9 +18,7 @@ use Rattle.record.specs.declared.Answer.the-variants.{New, Found}
 use Rattle.record.specs.declared.Head.{Head}
 use Rattle.record.specs.declared.Move.{Move}
 use Rattle.record.specs.Kinds.{kindNo, answerOf}
-use Rattle.record.specs.Layout.{Record, workerPlace, movePlace, headAt, storeHead, moveTo, storeMoves, store}
-use Rattle.record.proofs.Apart.{cells-same}
-use Rattle.record.proofs.Pieces.{head-back, head-of}
+use Rattle.record.specs.Layout.{Record}
 use Rattle.rules.specs.Heads.{to, toLevel, toNode, holdingNode, holdingLevel, ended}
 use Rattle.rules.specs.Steps.{Step, step, going, expected, peeked, byCount, withNode, takeNode, withLevel, takeLevel, closed}
 use Rattle.rules.specs.Searching as searching
@@ -157,22 +152,3 @@ act-tells w s r m q = kind-tells w s (r .head) m (r .head .kind) (r .moves) refl
     some : (n : ℕ) → not (eqb n 0) ≡ true → 1 ≤ n
     some zero e = absurd (true-false (sym e))
     some (suc n) e = omega arith
-
--- the head of a record that is stored is there again, whatever its Moves are
-module _ (w i : ℕ) where
-  moves-after : (ms : List Move) (l : List ℕ) (k : ℕ) → k < workerPlace w i + headWords → getD (storeMoves w ms i l) k 0 ≡ getD l k 0
-  unfolding storeMoves moveTo movePlace
-  moves-after [] l k h = refl
-  moves-after (v ∷ ms) l k h =
-      moves-after ms _ k h
-      ∙ (below-sets (v .nodes) _ (workerPlace w i + headWords + moveWords * length ms + 3) k (omega arith)
-      ∙ below-sets (v .home ∷ v .child ∷ v .count ∷ []) l (workerPlace w i + headWords + moveWords * length ms) k (omega arith))
-
-  pub head-stored : (r : Record) (l : List ℕ) → workerPlace w i + 10 ≤ length l → headAt w (store w r i l) i ≡ r .head
-  unfolding store headAt
-  head-stored r l h =
-      let p : ℕ = workerPlace w i in
-      let n : ℕ = length (r .moves) in
-      let l₁ : List ℕ = storeHead w (r .head) n i l in
-      head-of (storeMoves w (r .moves) i l₁) p (r .head) n
-      (cells-same (storeMoves w (r .moves) i l₁) l₁ p 10 (λ k g. moves-after (r .moves) l₁ (p + k) (omega arith)) ∙ head-back w (r .head) n i l h)

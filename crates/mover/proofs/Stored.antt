@@ -11,14 +11,14 @@ use borrow.Author.Tests.{eq-eqb, ne-eqb, lt-ltb, le-ltb, lt-leb, ltb-true}
 use native.Mathlib.Omega.{arith}
 use Rattle.words.specs.Choice.{pick}
 use Rattle.words.specs.Blocks.{cells}
-use Rattle.words.proofs.Blocks.{below-sets, above-sets, sets-cells, getD-cells, length-cells, sets-skip, set-sets, sets-set}
+use Rattle.words.proofs.Blocks.{above-sets, sets-cells, getD-cells, length-cells, sets-skip, set-sets, sets-set}
 use Rattle.settings.specs.Sizes.{headWords, moveWords, maxLimit}
 use Rattle.record.specs.declared.Head.{Head}
 use Rattle.record.specs.declared.Move.{Move}
 use Rattle.record.specs.Kinds.{kindNo}
 use Rattle.record.specs.Layout.{record′, workerPlace, movePlace, headFrom, headList, headAt, movesAt, moveFrom, moveAt, firstMoves, storeHead, moveTo, storeMoves, store, newMove}
 use Rattle.record.proofs.Apart.{after}
-use Rattle.record.proofs.Pieces.{length-first, move-same, head-outside, moves-kept}
+use Rattle.record.proofs.Pieces.{length-first, move-before, move-same, head-outside, moves-kept}
 use Rattle.rules.specs.Heads.{lastNode}
 use Rattle.mover.specs.declared.Inner.{Inner}
 use Rattle.mover.specs.declared.Mover.{Mover}
@@ -227,11 +227,6 @@ module _ (w i : ℕ) where
       → ((k : ℕ) → workerPlace w i + headWords ≤ k → k < workerPlace w i + headWords + moveWords * n → getD l′ k 0 ≡ getD l k 0)
       → storeMoves w (firstMoves w l i n) i l′ ≡ l′
   moves-stand l l′ n h = rw (← first-stand l l′ n h) (moves-kept w i l′ n)
-
-  move-before : (v : Move) (p : ℕ) (l : List ℕ) (k : ℕ) → k < p → getD (moveTo v p l) k 0 ≡ getD l k 0
-  unfolding moveTo
-  move-before v p l k h =
-      below-sets (v .nodes) _ (p + 3) k (omega arith) ∙ below-sets (v .home ∷ v .child ∷ v .count ∷ []) l p k h
 
   -- the head alone
   store-first : (h : Head) (l : List ℕ) (n : ℕ) → store w (record′ h (firstMoves w l i n)) i l ≡ storeHead w h n i l

@@ -32,12 +32,16 @@ pub length-moveTo : (m : Move) (p : ℕ) (l : List ℕ) → length (moveTo m p l
 unfolding moveTo
 length-moveTo m p l = length-sets (sets l p (m .home ∷ m .child ∷ m .count ∷ [])) (p + 3) (m .nodes) ∙ length-sets l p (m .home ∷ m .child ∷ m .count ∷ [])
 
+pub move-before : (m : Move) (p : ℕ) (l : List ℕ) (k : ℕ) → k < p → getD (moveTo m p l) k 0 ≡ getD l k 0
+unfolding moveTo
+move-before m p l k h =
+    below-sets (m .nodes) (sets l p (m .home ∷ m .child ∷ m .count ∷ [])) (p + 3) k (omega arith)
+    ∙ below-sets (m .home ∷ m .child ∷ m .count ∷ []) l p k h
+
 pub move-outside :
     (m : Move) (p : ℕ) (l : List ℕ) (k : ℕ) → length (m .nodes) ≡ maxLimit → Outside p moveWords k → getD (moveTo m p l) k 0 ≡ getD l k 0
 unfolding moveTo
-move-outside m p l k e (before h) =
-    below-sets (m .nodes) (sets l p (m .home ∷ m .child ∷ m .count ∷ [])) (p + 3) k (omega arith)
-    ∙ below-sets (m .home ∷ m .child ∷ m .count ∷ []) l p k h
+move-outside m p l k e (before h) = move-before m p l k h
 move-outside m p l k e (after h) =
     above-sets (m .nodes) (sets l p (m .home ∷ m .child ∷ m .count ∷ [])) (p + 3) k (omega arith)
     ∙ above-sets (m .home ∷ m .child ∷ m .count ∷ []) l p k (omega arith)
@@ -80,14 +84,17 @@ module _ (w i : ℕ) where
   length-storeMoves (m ∷ ms) l =
       length-storeMoves ms (moveTo m (movePlace w i (length ms)) l) ∙ length-moveTo m (movePlace w i (length ms)) l
 
+  pub moves-before : (ms : List Move) (l : List ℕ) (k : ℕ) → k < workerPlace w i + headWords → getD (storeMoves w ms i l) k 0 ≡ getD l k 0
+  unfolding storeMoves movePlace
+  moves-before [] l k h = refl
+  moves-before (m ∷ ms) l k h = moves-before ms _ k h ∙ move-before m (movePlace w i (length ms)) l k (omega arith)
+
   pub moves-outside :
       (ms : List Move) (l : List ℕ) (k : ℕ)
       → AllSized ms → Outside (workerPlace w i + headWords) (moveWords * length ms) k → getD (storeMoves w ms i l) k 0 ≡ getD l k 0
   unfolding storeMoves movePlace
-  moves-outside [] l k s o = refl
-  moves-outside (m ∷ ms) l k (e, s) (before h) =
-      moves-outside ms (moveTo m (movePlace w i (length ms)) l) k s (before h)
-      ∙ move-outside m (movePlace w i (length ms)) l k e (before (omega arith))
+  moves-outside ms l k s (before h) = moves-before ms l k h
+  moves-outside [] l k s (after h) = refl
   moves-outside (m ∷ ms) l k (e, s) (after h) =
       moves-outside ms (moveTo m (movePlace w i (length ms)) l) k s (after (omega arith))
       ∙ move-outside m (movePlace w i (length ms)) l k e (after (omega arith))

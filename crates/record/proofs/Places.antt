@@ -6,12 +6,12 @@ use mathlib.Core.List.{List, [], _∷_}
 use Prim.Native.Nat.{ℕ, _+_, _*_}
 use native.Mathlib.Omega.{arith}
 use lib.Dec.{leb, eqb}
-use lib.ListN.{getD, length}
+use lib.ListN.{getD}
 use lib.Seq.{sets}
 use Rattle.words.specs.Blocks.{cells}
 use Rattle.words.specs.Digits.{depths}
 use Rattle.words.proofs.Blocks.{getD-cells}
-use Rattle.settings.specs.Sizes.{maxLimit, maxMoves, workerWords}
+use Rattle.settings.specs.Sizes.{maxMoves, workerWords}
 use Rattle.record.specs.declared.Head.{Head}
 use Rattle.record.specs.declared.Move.{Move}
 use Rattle.record.specs.Kinds.{kindNo}
@@ -45,13 +45,6 @@ module _ (w : ℕ) (l : List ℕ) (i : ℕ) where
       (h : Head) (m : ℕ) {l′ b : List ℕ} {p : ℕ} → l′ ≡ sets l p b → p ≡ workerPlace w i → b ≡ headList h m → l′ ≡ storeHead w h m i l
   unfolding storeHead
   head-store-way h m a b c = simp (a, b, c)
-
-  pub move-load-way :
-      (j : ℕ) {x y z p : ℕ} {n : List ℕ}
-      → z ≡ getD l (p + 2) 0 → y ≡ getD l (p + 1) 0 → x ≡ getD l p 0 → n ≡ cells l (p + 3) maxLimit → p ≡ movePlace w i j
-      → record { home = x; child = y; count = z; nodes = n } ≡ moveAt w l i j
-  unfolding moveAt moveFrom
-  move-load-way j a b c d e = simp (a, b, c, d, e)
 
   pub move-store-way :
       (m : Move) (j : ℕ) {l₁ l₂ : List ℕ} {p : ℕ}

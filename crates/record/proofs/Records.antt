@@ -17,7 +17,7 @@ use Rattle.record.specs.Kinds.{kinds, kindOf, kindNo}
 use Rattle.record.specs.Layout.{Record, record′, headFrom, headList, workerPlace, headAt, movesAt, firstMoves, load, storeHead, storeMoves, store}
 use Rattle.record.specs.Fits.{fits, fitsBy}
 use Rattle.record.proofs.Apart.{Outside, before, after, cells-same, cells-all, room, apart}
-use Rattle.record.proofs.Pieces.{AllSized, length-first, first-sized, first-same, length-storeMoves, moves-outside, moves-back, length-storeHead, head-back, head-outside, head-of, count-of, head-kept, moves-kept}
+use Rattle.record.proofs.Pieces.{AllSized, length-first, first-sized, first-same, length-storeMoves, moves-before, moves-outside, moves-back, length-storeHead, head-back, head-outside, head-of, count-of, head-kept, moves-kept}
 
 -- a record that a worker's words can hold
 pub record WellFormed (w : ℕ) (r : Record) : Type 0 where
@@ -33,14 +33,18 @@ module _ (w : ℕ) (r : Record) (i : ℕ) (l : List ℕ) where
       length-storeMoves w i (r .moves) (storeHead w (r .head) (length (r .moves)) i l)
       ∙ length-storeHead w (r .head) (length (r .moves)) i l
 
-  -- the ten words of the head are there
-  pub store-head : AllSized (r .moves) → workerPlace w i + 10 ≤ length l → cells (store w r i l) (workerPlace w i) 10 ≡ headList (r .head) (length (r .moves))
+  -- the ten words of the head are there, and so is the head
+  pub store-head : workerPlace w i + 10 ≤ length l → cells (store w r i l) (workerPlace w i) 10 ≡ headList (r .head) (length (r .moves))
   unfolding store
-  store-head s h =
+  store-head h =
       let l₁ : List ℕ = storeHead w (r .head) (length (r .moves)) i l in
       cells-same (storeMoves w (r .moves) i l₁) l₁ (workerPlace w i) 10
-      (λ k g. moves-outside w i (r .moves) l₁ (workerPlace w i + k) s (before (omega arith)))
+      (λ k g. moves-before w i (r .moves) l₁ (workerPlace w i + k) (omega arith))
       ∙ head-back w (r .head) (length (r .moves)) i l h
+
+  pub head-stored : workerPlace w i + 10 ≤ length l → headAt w (store w r i l) i ≡ r .head
+  unfolding headAt
+  head-stored h = head-of (store w r i l) (workerPlace w i) (r .head) (length (r .moves)) (store-head h)
 
   -- what is stored is loaded again
   pub load-store : WellFormed w r → workerWords w * i + workerWords w ≤ length l → load w (store w r i l) i ≡ r
@@ -51,9 +55,9 @@ module _ (w : ℕ) (r : Record) (i : ℕ) (l : List ℕ) where
       let b : headWords + moveWords * maxMoves w ≤ workerWords w = room w in
       let l₁ : List ℕ = storeHead w (r .head) (length (r .moves)) i l in
       let n : length l₁ ≡ length l = length-storeHead w (r .head) (length (r .moves)) i l in
-      let t : cells (store w r i l) (workerPlace w i) 10 ≡ headList (r .head) (length (r .moves)) = store-head s (omega arith) in
+      let t : cells (store w r i l) (workerPlace w i) 10 ≡ headList (r .head) (length (r .moves)) = store-head (omega arith) in
       let m : getD (store w r i l) (workerPlace w i + 9) 0 ≡ length (r .moves) = count-of _ (workerPlace w i) (r .head) _ t in
-      let a : headFrom (cells (store w r i l) (workerPlace w i) 9) ≡ r .head = head-of _ (workerPlace w i) (r .head) _ t in
+      let a : headAt w (store w r i l) i ≡ r .head = head-stored (omega arith) in
       let q : firstMoves w (storeMoves w (r .moves) i l₁) i (length (r .moves)) ≡ r .moves = moves-back w i (r .moves) l₁ s (omega arith) in
       rw (a, m, q)
 

@@ -264,20 +264,6 @@ impl Move {
         }
     }
 
-    pub fn load(words: &[u32], i: u32, j: u32) -> Move
-        ensures { λ r. ⌜ r ≡ moveAt 3 (now (words .entry)) i j ⌝ }
-    {
-        let p = move_place(i, j);
-        let mut n = [0u32; 8];
-        copy_out(words, p + 3, &mut n);
-        Move {
-            home: at(words, p),
-            child: at(words, p + 1),
-            count: at(words, p + 2),
-            nodes: n,
-        }
-    }
-
     pub fn store(self, words: &mut [u32], i: u32, j: u32)
         ensures { λ r. ⌜ now (words .exit) ≡ moveTo self (movePlace 3 i j) (now (words .entry)) ⌝ }
     {
