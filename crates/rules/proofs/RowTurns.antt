@@ -17,7 +17,7 @@ use Rattle.trie.proofs.Whole.{idle, Worker}
 use Rattle.rules.proofs.RowSteps.{Rowed, ended, rowed-step, rowed-new, rowed-found, rowed-full, row-later, book-stays}
 use Rattle.rules.proofs.Invariant.{Rowing, goes, ends-new, ends-found}
 
--- the newest start of worker i in the list is that of index k for pixel p
+-- the newest open call of worker i in the list has index k and pixel p
 pub record Newest (os : List Opened) (i k p : ℕ) : Type 0 where
   pub ends : (n : ℕ) (a : Answer) → endedBy i n a os ≡ record { start = k; end = n; pixel = p; answer = a } ∷ []
 

@@ -12,13 +12,13 @@ use borrow.Author.Tests.{not-true}
 use Rattle.words.specs.Choice.{asks, firstNo}
 use Rattle.settings.specs.declared.Settings.{Settings}
 use Rattle.record.specs.declared.Answer.{Answer}
-use Rattle.record.specs.declared.Answer.the-variants.{Nothing, Full}
+use Rattle.record.specs.declared.Answer.the-variants.{Nothing, Full, Open}
 use Rattle.rules.specs.Heads.{ended}
 use Rattle.rules.specs.Acts.{act}
 use Rattle.rules.specs.Asked.{question4, question7, question8, question9}
 use Rattle.rules.specs.Operations.{Result, recordOf, taken, full, fullRecord, turn, turnQuestions}
 use Rattle.rules.specs.Lists.{State, after}
-use Rattle.rules.specs.Calls.{Call, Opened, turns, happens, opens, ends, endsWith, endingAnswer, ending}
+use Rattle.rules.specs.Calls.{Call, Opened, turns, happens, leftOpen, opens, ends, endsWith, endingAnswer, ending}
 use Rattle.rules.specs.Demands.{EventOk}
 use Rattle.trie.proofs.Update.{upd}
 use Rattle.trie.proofs.Evolve.{grows-refl}
@@ -39,13 +39,21 @@ ends-of : (i k : ℕ) (os : List Opened) (r : Result) → ends (turns i) k (r .r
 unfolding ends
 ends-of i k os r = refl
 
-opens-none : (i k : ℕ) (os : List Opened) (r : Result) → opens (turns i) k (r .reply) os ≡ os
+opens-left : (i k : ℕ) (os : List Opened) (r : Result) → opens (turns i) k (r .reply) os ≡ leftOpen i (r .reply .answer) os
 unfolding opens
-opens-none i k os r = refl
+opens-left i k os r = refl
 
 nothing-ends : (i k : ℕ) (os : List Opened) → endsWith i k Nothing os ≡ []
 unfolding endsWith
 nothing-ends i k os = refl
+
+nothing-left : (i : ℕ) (os : List Opened) → leftOpen i Nothing os ≡ os
+unfolding leftOpen
+nothing-left i os = refl
+
+open-left : (i : ℕ) (os : List Opened) → leftOpen i Open os ≡ os
+unfolding leftOpen
+open-left i os = refl
 
 nothing-counts : (i k : ℕ) (os : List Opened) → length (endsWith i k Nothing os) ≡ endingAnswer Nothing
 unfolding endsWith endingAnswer
@@ -90,7 +98,7 @@ module _ {w : ℕ} {s₀ : Settings} {x : State} {k : ℕ} {os : List Opened} {c
       none-given (λ z. omega arith) e₉
 
   -- the turn is taken
-  turn-carried : turn w (x .settings) i (x .areas) .reply .number ≡ 0 → Along w s₀ (after (turn w (x .settings) i (x .areas))) (suc k) os (cs ++ endsWith i k (turn w (x .settings) i (x .areas) .reply .answer) os)
+  turn-carried : turn w (x .settings) i (x .areas) .reply .number ≡ 0 → Along w s₀ (after (turn w (x .settings) i (x .areas))) (suc k) (leftOpen i (turn w (x .settings) i (x .areas) .reply .answer) os) (cs ++ endsWith i k (turn w (x .settings) i (x .areas) .reply .answer) os)
   unfolding taken
   turn-carried z =
       let o = turn-open w x i (inl refl) z in
@@ -107,7 +115,7 @@ module _ {w : ℕ} {s₀ : Settings} {x : State} {k : ℕ} {os : List Opened} {c
         fine = fine-after F i h (K .table) (K .inv) (K .levels) (K .matches);
         top = top-stays F (a .top) (K .rowing);
         rows = row-turn (F .inv .structure) (F .inv .partition) (a .rows .rowed) (a .rows .perm) i b (a .opened i h b) (K .rowing);
-        opened = newest-stays s₀ (a .workers) (a .opened) i (K .worker) (λ y. (b, same-key (K .rowing) y));
+        opened = newest-stays s₀ (a .workers) (a .opened) i (K .worker) _ (λ y. (b, (same-key (K .rowing) y, stays-open (K .rowing) y)));
       })
     where
       same-key : {W W′ : WorldOf w s₀} {c c′ : Worker} {v : Answer} → Rowing W W′ c c′ v → c′ .act ≢ idle → c′ .key ≡ c .key
@@ -115,8 +123,13 @@ module _ {w : ℕ} {s₀ : Settings} {x : State} {k : ℕ} {os : List Opened} {c
       same-key (ends-new k q e y) z = absurd (z y)
       same-key (ends-found k q e y) z = absurd (z y)
 
+      stays-open : {W W′ : WorldOf w s₀} {c c′ : Worker} {v : Answer} → Rowing W W′ c c′ v → c′ .act ≢ idle → leftOpen i v os ≡ os
+      stays-open (goes E b n e y) z = open-left i os
+      stays-open (ends-new k q e y) z = absurd (z y)
+      stays-open (ends-found k q e y) z = absurd (z y)
+
   -- the call ends "full"
-  turn-full : turn w (x .settings) i (x .areas) .reply .number ≡ 9 → Along w s₀ (after (turn w (x .settings) i (x .areas))) (suc k) os (cs ++ endsWith i k (turn w (x .settings) i (x .areas) .reply .answer) os)
+  turn-full : turn w (x .settings) i (x .areas) .reply .number ≡ 9 → Along w s₀ (after (turn w (x .settings) i (x .areas))) (suc k) (leftOpen i (turn w (x .settings) i (x .areas) .reply .answer) os) (cs ++ endsWith i k (turn w (x .settings) i (x .areas) .reply .answer) os)
   unfolding full fullRecord ended
   turn-full z =
       let o = turn-open w x i (inr refl) z in
@@ -135,22 +148,22 @@ module _ {w : ℕ} {s₀ : Settings} {x : State} {k : ℕ} {os : List Opened} {c
         fine = fine-after F i h (F .table) I (levels-stay (F .levels) i h c (grows-refl (a .world)) refl) (record { pixel-is = M .pixel-is; node-is = M .node-is; level-is = M .level-is; doing = rests refl refl (omega arith) });
         top = a .top;
         rows = row-full-turn (F .inv .structure) (F .inv .partition) (a .rows .rowed) (a .rows .perm) i b (a .opened i h b) c refl (full-unseen (at F i h) (N .taking));
-        opened = newest-stays s₀ (a .workers) (a .opened) i c (λ y. absurd (y refl));
+        opened = newest-stays s₀ (a .workers) (a .opened) i c Full (λ y. absurd (y refl));
       })
 
   -- any other number changes nothing and ends nothing
-  turn-waits : turn w (x .settings) i (x .areas) .reply .number ≢ 0 → turn w (x .settings) i (x .areas) .reply .number ≢ 9 → Along w s₀ (after (turn w (x .settings) i (x .areas))) (suc k) os (cs ++ endsWith i k (turn w (x .settings) i (x .areas) .reply .answer) os)
+  turn-waits : turn w (x .settings) i (x .areas) .reply .number ≢ 0 → turn w (x .settings) i (x .areas) .reply .number ≢ 9 → Along w s₀ (after (turn w (x .settings) i (x .areas))) (suc k) (leftOpen i (turn w (x .settings) i (x .areas) .reply .answer) os) (cs ++ endsWith i k (turn w (x .settings) i (x .areas) .reply .answer) os)
   turn-waits h g =
       let e : turn w (x .settings) i (x .areas) .reply .answer ≡ Nothing = ap (λ y. y .reply .answer) (turn-refused w (x .settings) i (x .areas) h g) in
-      rw (turn-leaves w (x .settings) i (x .areas) h g, e, nothing-ends i k os) (along-waits a)
+      rw (turn-leaves w (x .settings) i (x .areas) h g, e, nothing-ends i k os, nothing-left i os) (along-waits a)
 
   pub turn-along : Along w s₀ (after (turn w (x .settings) i (x .areas))) (suc k) (opens (turns i) k (turn w (x .settings) i (x .areas) .reply) os) (cs ++ ends (turns i) k (turn w (x .settings) i (x .areas) .reply) os)
-  turn-along = rw (opens-none i k os (turn w (x .settings) i (x .areas)), ends-of i k os (turn w (x .settings) i (x .areas))) (by (ℕ-discrete (turn w (x .settings) i (x .areas) .reply .number) 0) (ℕ-discrete (turn w (x .settings) i (x .areas) .reply .number) 9))
+  turn-along = rw (opens-left i k os (turn w (x .settings) i (x .areas)), ends-of i k os (turn w (x .settings) i (x .areas))) (by (ℕ-discrete (turn w (x .settings) i (x .areas) .reply .number) 0) (ℕ-discrete (turn w (x .settings) i (x .areas) .reply .number) 9))
     where
       r : Result
       r = turn w (x .settings) i (x .areas)
 
-      by : Dec (r .reply .number ≡ 0) → Dec (r .reply .number ≡ 9) → Along w s₀ (after r) (suc k) os (cs ++ endsWith i k (r .reply .answer) os)
+      by : Dec (r .reply .number ≡ 0) → Dec (r .reply .number ≡ 9) → Along w s₀ (after r) (suc k) (leftOpen i (r .reply .answer) os) (cs ++ endsWith i k (r .reply .answer) os)
       by (yes z) d = turn-carried z
       by (no z) (yes y) = turn-full y
       by (no z) (no y) = turn-waits z y

@@ -17,6 +17,7 @@ pub data Event : Type 0 where
   starts : ℕ → ℕ → ℕ → Event
   turns : ℕ → Event
 
+-- an event in a state
 unfoldable pub happens : ℕ → Event → State → Result
 happens w (starts i row column) x = start w (x .settings) i row column (x .areas)
 happens w (turns i) x = turn w (x .settings) i (x .areas)
@@ -31,6 +32,7 @@ unfoldable pub history : ℕ → List Event → State → List Happened
 history w [] x = []
 history w (e ∷ es) x = record { event = e; reply = happens w e x .reply } ∷ history w es (after (happens w e x))
 
+-- the state that the sequence leaves
 unfoldable pub stateAfter : ℕ → List Event → State → State
 stateAfter w [] x = x
 stateAfter w (e ∷ es) x = stateAfter w es (after (happens w e x))
@@ -42,18 +44,31 @@ pub record Call : Type 0 where
   pub pixel : ℕ
   pub answer : Answer
 
--- a start that was carried out: its worker, index and pixel
+-- an open call: its worker, the index of the start that opened it, its pixel
 pub record Opened : Type 0 where
   pub worker : ℕ
   pub index : ℕ
   pub pixel : ℕ
 
--- "A start that is carried out opens a call for its pixel." The newest stands first.
+-- the open calls of all workers but i
+unfoldable pub others : ℕ → List Opened → List Opened
+others i [] = []
+others i (o ∷ os) = pick (eqb (o .worker) i) (others i os) (o ∷ others i os)
+
+-- "The turn that answers it "new", "found" or "full" ends it.": what is open after a turn of worker i
+unfoldable pub leftOpen : ℕ → Answer → List Opened → List Opened
+leftOpen i Nothing os = os
+leftOpen i (New n) os = others i os
+leftOpen i (Found n) os = others i os
+leftOpen i Full os = others i os
+leftOpen i Open os = os
+
+-- "A start that is carried out opens a call for its pixel." The calls that are open after an event, the newest first.
 unfoldable pub opens : Event → ℕ → Reply → List Opened → List Opened
 opens (starts i row column) k r os = pick (eqb (r .number) 0) (record { worker = i; index = k; pixel = pixelNumber row column } ∷ os) os
-opens (turns i) k r os = os
+opens (turns i) k r os = leftOpen i (r .answer) os
 
--- the worker's newest start
+-- the worker's open call ends
 unfoldable pub endedBy : ℕ → ℕ → Answer → List Opened → List Call
 endedBy i k a [] = []
 endedBy i k a (o ∷ os) = pick (eqb (o .worker) i) (record { start = o .index; end = k; pixel = o .pixel; answer = a } ∷ []) (endedBy i k a os)
@@ -66,15 +81,17 @@ endsWith i k (Found n) os = endedBy i k (Found n) os
 endsWith i k Full os = endedBy i k Full os
 endsWith i k Open os = []
 
+-- "Other refused starts and turns open and end nothing.": the calls that an event ends
 unfoldable pub ends : Event → ℕ → Reply → List Opened → List Call
 ends (starts i row column) k r os = []
 ends (turns i) k r os = endsWith i k (r .answer) os
 
--- the ended calls of a history whose first event has index k, with the starts before it
+-- the ended calls of a history whose first event has index k, with the calls that are open before it
 unfoldable pub callsFrom : ℕ → List Opened → List Happened → List Call
 callsFrom k os [] = []
 callsFrom k os (x ∷ xs) = ends (x .event) k (x .reply) os ++ callsFrom (suc k) (opens (x .event) k (x .reply) os) xs
 
+-- all ended calls of a sequence
 unfoldable pub calls : List Happened → List Call
 calls xs = callsFrom 0 [] xs
 

@@ -34,8 +34,8 @@ pub record Row (w : ℕ) (x : State) (es : List Event) : Type 0 where
   -- "The row is an order of all ended calls, each standing in it once"
   -- excludes: a machine that answers "found" for a pixel that nobody placed; one that answers "new" twice for one pixel (their row would leave a call out)
   pub all-calls : List·Permᴰ (calls (history w es x)) row
-  -- no ended call is lost: each turn answered "new", "found" or "full" ended a call that a start had opened
-  -- excludes: a machine whose refused start still opens a call; one that answers "found" to a worker that never started a call
+  -- no ended call is lost: each turn answered "new", "found" or "full" ended a call that a start had opened and no turn had ended
+  -- excludes: a machine that answers "found" to a worker that never started a call; one that answers a call "full" and later "new"
   pub none-lost : length (calls (history w es x)) ≡ endings (history w es x)
   -- excludes: a machine that answers "full" for a pixel placed before the call started; one that answers "found" before any call that places the pixel has started
   pub in-order : InOrder row
@@ -51,6 +51,7 @@ takesNumber w (turns i) x =
     both (takesNode (recordOf w (x .areas) i .head .kind))
     (both (eqb (recordOf w (x .areas) i .head .«held_node») 0) (eqb (happens w (turns i) x .reply .number) 0))
 
+-- how many turns of the sequence took a next number for a node
 unfoldable pub numbersTaken : ℕ → List Event → State → ℕ
 numbersTaken w [] x = 0
 numbersTaken w (e ∷ es) x = pick (takesNumber w e x) 1 0 + numbersTaken w es (after (happens w e x))
