@@ -1,10 +1,11 @@
 #!/bin/sh
-# The trace and the pictures in docs/ are what the library gives now.
+# The trace and the pictures in docs/ are what the library gives now, and each picture stands in a document.
 set -eu
 cd "$(dirname "$0")/.."
-out=${TMPDIR:-/var/tmp}/leafdrum-documents
+out=target/documents
 rm -rf "$out"
 sh tools/pictures.sh "$out"
 diff "$out/TRACE.md" docs/TRACE.md
-for f in chain move-closed move-amid move-ended; do diff "$out/$f.svg" "docs/pictures/$f.svg"; done
-echo "documents: the trace and 4 pictures are as the library gives them"
+diff -r "$out/pictures" docs/pictures
+for f in docs/pictures/*; do grep -q "pictures/$(basename "$f")" docs/*.md || { echo "documents: no document shows $f"; exit 1; }; done
+echo "documents: the trace and $(ls docs/pictures | wc -l) pictures are as the library gives them"

@@ -1,20 +1,22 @@
 #!/bin/sh
 # Builds target/bin/leafdrum and target/staticlib/libexport.a from the records in checked/, in seconds: sh tools/build.sh
 # A record is what the compiler wrote when it proved a crate (rattle check -o): the sum of all that it read, and its verdict. The compiler builds nothing
-# from a record that does not match. With --record such a crate is proved here, and its record is written anew. Under another kit all is proved by rt.
+# from a record that does not match: status 3. With --record such a crate is proved here, and its record is written anew. Under another kit rt proves all.
 set -eu
 cd "$(dirname "$0")/.."
+case ${1:-} in '' | --record) ;; *) echo "usage: sh tools/build.sh [--record]" >&2; exit 2 ;; esac
 kit=${RATTLE_HOME:-$(dirname "$(dirname "$(rt doc)")")}
 own=$kit/on/$(uname -m)
-built=target/built
-mkdir -p "$built" target/bin target/staticlib checked
-if [ "${1:-}" = --record ]; then
-    rt version >checked/kit
-elif [ "$(rt version)" != "$(cat checked/kit)" ]; then
-    echo "build.sh: the records are of another kit, $(cat checked/kit); every crate is proved here" >&2
+mkdir -p target/bin target/staticlib
+if [ -z "${1:-}" ] && [ "$(rt version)" != "$(cat checked/kit)" ]; then
+    echo "build.sh: the records are of another kit, $(cat checked/kit): every crate is proved here, which takes some minutes" >&2
     rt check export leafdrum
     exec rt staticlib export
 fi
+# a folder of its own, so that a build that was stopped, or runs beside this one, is not in the way
+built=$(mktemp -d target/built.XXXXXX)
+trap 'rm -rf "$built"' EXIT
+trap 'exit 1' HUP INT TERM
 
 # Prints the crates that the program or the library needs, in the order of crates.txt.
 crates() { sed -n '/^#/d; /^bench:/d; s/:.*//p' crates.txt; }
@@ -36,7 +38,7 @@ compiler() { # VERB CRATE [WORDS...]
 # Builds a crate from its record.
 build() { # CRATE
     case $1 in
-    export) compiler build "$1" --crate-checked "checked/$1" --toolchain "$own/toolchain" -o target/staticlib/libexport.a ;;
+    export) compiler build "$1" --crate-checked "checked/$1" --toolchain "$own/toolchain" -o "$built/libexport.a" ;;
     leafdrum) compiler build "$1" --crate-checked "checked/$1" --toolchain "$own/toolchain" -o "$built/$1.o" ;;
     *) compiler build "$1" --crate-checked "checked/$1" -o "$built/$1.rlib" ;;
     esac
@@ -44,14 +46,18 @@ build() { # CRATE
 
 echo "build.sh: building from the records of the check" >&2
 for c in $(crates); do
-    if build "$c" >"$built/$c.log" 2>&1; then continue; fi
-    if [ "${1:-}" != --record ]; then
-        cat "$built/$c.log" >&2
-        echo "build.sh: the record of $c does not match: sh tools/build.sh --record proves it and writes its record" >&2
-        exit 1
+    if build "$c" >"$built/log" 2>&1; then continue; fi
+    if [ -z "${1:-}" ]; then
+        cat "$built/log" >&2
+        grep -q 'checked-crate' "$built/log" || exit 1
+        echo "build.sh: a file differs from the record of $c; sh tools/build.sh --record proves what differs and writes its records" >&2
+        exit 3
     fi
     echo "build.sh: proving $c" >&2
-    compiler check "$c" --cache "$PWD/target/cache" -o "checked/$c" >"$built/$c.log" 2>&1 || { cat "$built/$c.log" >&2; exit 1; }
-    build "$c" >"$built/$c.log"
+    compiler check "$c" --cache "$PWD/target/cache" -o "checked/$c" >"$built/log" 2>&1 || { cat "$built/log" >&2; exit 1; }
+    build "$c" >"$built/log" 2>&1 || { cat "$built/log" >&2; exit 1; }
 done
-"$own/bin/rattle-link" --target x86_64-unknown-linux-gnu --toolchain "$own/toolchain" -o target/bin/leafdrum "$built/leafdrum.o" >"$built/link.log"
+"$own/bin/rattle-link" --target x86_64-unknown-linux-gnu --toolchain "$own/toolchain" -o "$built/leafdrum" "$built/leafdrum.o" >"$built/log" 2>&1 || { cat "$built/log" >&2; exit 1; }
+mv -f "$built/leafdrum" target/bin/leafdrum
+mv -f "$built/libexport.a" target/staticlib/libexport.a
+[ -z "${1:-}" ] || rt version >checked/kit

@@ -82,8 +82,17 @@ def draw(st, title):
     return "\n".join([head, text(16, 24, title, 14, "#000", "bold")] + out + ["</svg>"]) + "\n"
 
 
-if __name__ == "__main__":
-    found = states(open(sys.argv[1]).read())
+def main():
+    if len(sys.argv) < 2:
+        sys.exit("usage: draw.py TEXT [N]")
+    with open(sys.argv[1], "rb") as text_file:
+        found = states(text_file.read())
     count = int(sys.argv[2]) if len(sys.argv) > 2 else len(found)
+    if not 1 <= count <= len(found):
+        sys.exit("draw.py: the text has a table after lines 1 to %d" % len(found) if found else "draw.py: the text opens no table")
     st = found[count - 1]
     sys.stdout.write(draw(st, "after line %d: %s" % (count, st.line)))
+
+
+if __name__ == "__main__":
+    main()

@@ -1,11 +1,11 @@
 #!/bin/sh
-# Writes the documents' pictures and trace into a folder: sh tools/pictures.sh DIR
+# Writes the documents' pictures and trace into a folder: sh tools/pictures.sh docs
 set -eu
 here=$(cd "$(dirname "$0")/.." && pwd -P)
-mkdir -p "$1"
+mkdir -p "$1/pictures"
 draw() { python3 "$here/tools/draw.py" "$here/examples/$1" "$2" > "$3"; }
-draw move.txt 11 "$1/chain.svg"
-draw move.txt 19 "$1/move-closed.svg"
-draw move.txt 30 "$1/move-amid.svg"
-draw move.txt 35 "$1/move-ended.svg"
+draw move.txt 11 "$1/pictures/chain.svg"
+draw move.txt 19 "$1/pictures/move-closed.svg"
+draw move.txt 30 "$1/pictures/move-amid.svg"
+draw move.txt 35 "$1/pictures/move-ended.svg"
 python3 "$here/tools/trace.py" > "$1/TRACE.md"

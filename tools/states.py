@@ -1,4 +1,5 @@
 """The table's words after each line of a text, from the library itself: builds words.c over the static library and reads what it writes."""
+import glob
 import os
 import subprocess
 
@@ -10,11 +11,10 @@ NONE = 4294967295
 
 
 def program():
-    """The path of words.c compiled; built anew where the library or the source is newer."""
-    lib = os.path.join(ROOT, "target/staticlib/libexport.a")
-    src = os.path.join(ROOT, "tools/words.c")
-    out = os.path.join(os.environ.get("TMPDIR", "/var/tmp"), "leafdrum-words")
-    if not os.path.exists(lib):
+    """The path of words.c compiled over the library; built anew where the code, the library or words.c is newer."""
+    lib, src, out = (os.path.join(ROOT, p) for p in ("target/staticlib/libexport.a", "tools/words.c", "target/words"))
+    code = glob.glob(os.path.join(ROOT, "crates/*/src/*.rt"))
+    if not os.path.exists(lib) or os.path.getmtime(lib) < max(map(os.path.getmtime, code)):
         subprocess.run(["sh", "tools/build.sh"], cwd=ROOT, check=True, stdout=2)
     if not os.path.exists(out) or os.path.getmtime(out) < max(os.path.getmtime(lib), os.path.getmtime(src)):
         subprocess.run(["gcc", "-O2", "-Wall", "-Wextra", src, lib, "-o", out], check=True)
@@ -46,8 +46,8 @@ class State:
 
 
 def states(text):
-    """The states after each line of the text."""
-    out = subprocess.run([program()], input=text.encode(), stdout=subprocess.PIPE, check=True).stdout.decode()
+    """The state after each line of a text in bytes, refused lines too; none where its first line is refused."""
+    out = subprocess.run([program()], input=text, stdout=subprocess.PIPE, check=True).stdout.decode()
     found = []
     for row in out.splitlines():
         word, _, rest = row.partition(" ")

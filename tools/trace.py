@@ -11,7 +11,7 @@ Written by `python3 tools/trace.py` from the library's own words; the tests comp
 (0,0) and (64,0) are placed by worker 0 and stand in one chain of level 0, because their first digits are the same; then worker 0 places (128,0),
 and worker 1 looks for (64,0) in the middle of the Move.
 
-Each row is one turn: the worker, the kind of turn that it did, the words that changed in nodes and levels, and the worker's record after it.
+Each row is a start or one turn of the worker that the text names: the kind of turn, the words that changed in nodes and levels, the worker's record after it.
 `n3` is node 3 (reference 7), `L1` is level 1 (reference 2).
 
 """
@@ -65,7 +65,8 @@ def record(st, i):
 
 
 def main():
-    found = states(open(os.path.join(ROOT, TEXT)).read())
+    with open(os.path.join(ROOT, TEXT), "rb") as text_file:
+        found = states(text_file.read())
     print(HEAD.format(name=TEXT), end="")
     print("| line | text | turn | words changed in nodes and levels | record after it | answer |\n|---|---|---|---|---|---|")
     for k in range(1, len(found)):

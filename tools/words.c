@@ -1,10 +1,11 @@
-/* Carries out a text of s, c and t lines through the library and writes the words of the table after each line: what draw.py and trace.py read.
-   Lines that the text program would refuse for their form are not looked for here. */
+/* Carries out a text as the text program reads it, through the library, and writes the words of the table after each line: what draw.py and trace.py read.
+   A refused line has a state too, with its number; nothing is written where line 1 is refused. */
 #include "../include/leafdrum.h"
 #include <stdio.h>
 #include <string.h>
 
 static uint32_t nodes[256], levels[9130], workers[2048];
+static unsigned char text[65537];
 
 static void state(leafdrum_settings s) {
     printf("settings %u %u %u %u %u\n", s.workers, s.limit, s.nodes, s.nodes_taken, s.levels_taken);
@@ -21,25 +22,60 @@ static void state(leafdrum_settings s) {
     }
 }
 
+/* A field is a number of 1 to 4 digits without a leading zero except 0. */
+static int number(const unsigned char *p, size_t n, uint32_t *v) {
+    if (n < 1 || n > 4 || (n > 1 && p[0] == '0')) return 0;
+    *v = 0;
+    for (size_t k = 0; k < n; k++) {
+        if (p[k] < '0' || p[k] > '9') return 0;
+        *v = *v * 10 + (p[k] - '0');
+    }
+    return 1;
+}
+
+/* The line is the letter and `count` numbers, parted by commas. */
+static int reads(const unsigned char *p, size_t n, char letter, int count, uint32_t *v) {
+    if (n < 1 || p[0] != letter) return 0;
+    size_t at = 1;
+    for (int k = 0; k < count; k++) {
+        if (at >= n || p[at] != ',') return 0;
+        size_t end = ++at;
+        while (end < n && p[end] != ',') end++;
+        if (!number(p + at, end - at, &v[k])) return 0;
+        at = end;
+    }
+    return at == n;
+}
+
+static leafdrum_reply carry(leafdrum_settings s, int first, const unsigned char *p, size_t n) {
+    uint32_t v[3];
+    leafdrum_reply unread = {.number = 10, .settings = s};
+    if (first) {
+        if (!reads(p, n, 's', 3, v)) return unread;
+        unread.number = 1;
+        return v[2] > 128 ? unread : leafdrum_open((leafdrum_settings){v[0], v[1], v[2], 0, 1}, nodes, 256, levels, 9130, workers, 2048);
+    }
+    if (reads(p, n, 'c', 3, v)) return leafdrum_start(s, v[0], v[1], v[2], nodes, 256, levels, 9130, workers, 2048);
+    if (reads(p, n, 't', 1, v)) return leafdrum_turn(s, v[0], nodes, 256, levels, 9130, workers, 2048);
+    return unread;
+}
+
 int main(void) {
     leafdrum_settings s = {0};
-    leafdrum_reply r = {0};
-    char line[64];
-    while (fgets(line, sizeof line, stdin)) {
-        unsigned a, b, c;
-        line[strcspn(line, "\n")] = 0;
-        if (sscanf(line, "s,%u,%u,%u", &a, &b, &c) == 3 && c <= 128)
-            r = leafdrum_open((leafdrum_settings){a, b, c, 0, 0}, nodes, 256, levels, 9130, workers, 2048);
-        else if (sscanf(line, "c,%u,%u,%u", &a, &b, &c) == 3)
-            r = leafdrum_start(s, a, b, c, nodes, 256, levels, 9130, workers, 2048);
-        else if (sscanf(line, "t,%u", &a) == 1)
-            r = leafdrum_turn(s, a, nodes, 256, levels, 9130, workers, 2048);
-        else
-            continue;
+    size_t length = fread(text, 1, sizeof text, stdin), at = 0;
+    if (length > 65536) return 0;
+    for (int first = 1; at < length; first = 0) {
+        const unsigned char *end = memchr(text + at, '\n', length - at);
+        size_t n = end ? (size_t)(end - (text + at)) : length - at;
+        leafdrum_reply r = end ? carry(s, first, text + at, n) : (leafdrum_reply){.number = 10, .settings = s};
+        if (first && r.number != 0) return 0;
         s = r.settings;
-        printf("line %s\nreply %u %u %u\n", line, r.number, r.answer, r.node);
+        printf("line ");
+        for (size_t k = 0; k < n; k++) putchar(text[at + k] >= 32 && text[at + k] < 127 ? text[at + k] : '?');
+        printf("\nreply %u %u %u\n", r.number, r.answer, r.node);
         state(s);
         puts("end");
+        at += n + 1;
     }
     return 0;
 }

@@ -1,4 +1,4 @@
-// Links the static library that `rt staticlib export` leaves in target/staticlib.
+// Links the static library that tools/build.sh leaves in target/staticlib.
 fn main() {
     let dir = std::env::var("CARGO_MANIFEST_DIR").unwrap();
     println!("cargo:rustc-link-search=native={dir}/../../target/staticlib");

@@ -19,6 +19,7 @@ pub record Areas : Type 0 where
   pub levels : List ℕ
   pub workers : List ℕ
 
+-- the three areas as one value
 abbrev pub areas : List ℕ → List ℕ → List ℕ → Areas
 areas n g k = record { nodes = n; levels = g; workers = k }
 
@@ -27,6 +28,7 @@ pub record Memory : Type 0 where
   pub nodes : List ℕ
   pub levels : List ℕ
 
+-- nodes and levels, which the workers share
 abbrev pub memory : List ℕ → List ℕ → Memory
 memory n g = record { nodes = n; levels = g }
 
@@ -34,9 +36,11 @@ memory n g = record { nodes = n; levels = g }
 abbrev pub levelRef : ℕ → ℕ
 levelRef g = 2 * g
 
+-- "2 × i + 1 for node i"
 abbrev pub nodeRef : ℕ → ℕ
 nodeRef i = 2 * i + 1
 
+-- whether a reference is a node's
 unfoldable pub isNode : ℕ → Bool
 isNode r = eqb (r % 2) 1
 
@@ -52,6 +56,7 @@ none = 4294967295
 unfoldable pub pixelAt : List ℕ → ℕ → ℕ
 pixelAt nodes i = getD nodes (nodeWords * i) 0
 
+-- the second word of node i
 unfoldable pub nextAt : List ℕ → ℕ → ℕ
 nextAt nodes i = getD nodes (nodeWords * i + 1) 0
 
@@ -59,9 +64,11 @@ nextAt nodes i = getD nodes (nodeWords * i + 1) 0
 unfoldable pub previousAt : ℕ → List ℕ → ℕ → ℕ
 previousAt w levels g = getD levels (levelWords w * g) 0
 
+-- the second word of level g
 unfoldable pub depthAt : ℕ → List ℕ → ℕ → ℕ
 depthAt w levels g = getD levels (levelWords w * g + 1) 0
 
+-- entry e of level g
 unfoldable pub entryAt : ℕ → List ℕ → ℕ → ℕ → ℕ
 entryAt w levels g e = getD levels (levelWords w * g + 2 + e) 0
 
@@ -92,6 +99,7 @@ fillLevel w levels g previous depth =
 unfoldable pub levelTaken : Settings → ℕ → Bool
 levelTaken s g = ltb g (s .«levels_taken»)
 
+-- node i is taken
 unfoldable pub nodeTaken : Settings → ℕ → Bool
 nodeTaken s i = ltb i (s .«nodes_taken»)
 

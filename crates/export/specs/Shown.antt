@@ -19,9 +19,11 @@ pub record Shown : Type 0 where
   pub reply : LeafdrumReply
   pub areas : Areas
 
+-- what is shown, by its parts
 abbrev pub shown : LeafdrumReply → Areas → Shown
 shown r a = record { reply = r; areas = a }
 
+-- an operation's result as the C interface shows it
 unfoldable pub exported : Result → Shown
 exported x = shown (numbersOf (x .reply)) (x .areas)
 

@@ -34,6 +34,7 @@ innerFits s k c = pick (hasNode k) (within c (s .limit)) (eqb c 0)
 unfoldable pub outerFits : Settings → Move → Bool
 outerFits s m = within (m .count) (s .limit)
 
+-- every Move of a record fits
 unfoldable pub movesFit : Settings → ℕ → List Move → Bool
 movesFit s k [] = false
 movesFit s k (m ∷ ms) = both (innerFits s k (m .count)) (every (outerFits s) ms)
@@ -51,5 +52,6 @@ fitsBy w s k r =
     (both (callFits s k (r .head)) (eqb (length (r .moves)) 0))
     (pick (leb k 22) (both (callFits s k (r .head)) (movingFits w s k (r .moves))) false))
 
+-- "Does the record fit its layout"
 unfoldable pub fits : ℕ → Settings → Record → Bool
 fits w s r = fitsBy w s (kindNo (r .head .kind)) r

@@ -20,6 +20,7 @@ kinds =
 unfoldable pub kindOf : ℕ → Kind
 kindOf n = getD kinds n Unknown
 
+-- the number of a kind in the record
 unfoldable pub kindNo : Kind → ℕ
 kindNo Idle = 0
 kindNo Look = 1
@@ -54,6 +55,7 @@ answerNo (Found n) = 2
 answerNo Full = 3
 answerNo Open = 4
 
+-- the node of an answer; 0 where it has none
 unfoldable pub answerNode : Answer → ℕ
 answerNode Nothing = 0
 answerNode (New n) = n

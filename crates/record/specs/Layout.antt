@@ -15,6 +15,7 @@ pub record Record : Type 0 where
   pub head : Head
   pub moves : List Move
 
+-- a record by its head and its Moves
 abbrev pub record′ : Head → List Move → Record
 record′ h ms = record { head = h; moves = ms }
 
@@ -46,6 +47,7 @@ workerPlace w i = workerWords w * i
 unfoldable pub movePlace : ℕ → ℕ → ℕ → ℕ
 movePlace w i j = workerPlace w i + headWords + moveWords * j
 
+-- the head of worker i
 unfoldable pub headAt : ℕ → List ℕ → ℕ → Head
 headAt w l i = headFrom (cells l (workerPlace w i) 9)
 
@@ -57,6 +59,7 @@ movesAt w l i = getD l (workerPlace w i + 9) 0
 unfoldable pub moveFrom : List ℕ → ℕ → Move
 moveFrom l p = record { home = getD l p 0; child = getD l (p + 1) 0; count = getD l (p + 2) 0; nodes = cells l (p + 3) maxLimit }
 
+-- Move j of worker i, from 0, the outermost
 unfoldable pub moveAt : ℕ → List ℕ → ℕ → ℕ → Move
 moveAt w l i j = moveFrom l (movePlace w i j)
 
@@ -69,12 +72,15 @@ firstMoves w l i (suc j) = moveAt w l i j ∷ firstMoves w l i j
 unfoldable pub load : ℕ → List ℕ → ℕ → Record
 load w l i = record′ (headAt w l i) (firstMoves w l i (movesAt w l i))
 
+-- the head and the number of Moves are written
 unfoldable pub storeHead : ℕ → Head → ℕ → ℕ → List ℕ → List ℕ
 storeHead w h m i l = sets l (workerPlace w i) (headList h m)
 
+-- a Move is written from word p on
 unfoldable pub moveTo : Move → ℕ → List ℕ → List ℕ
 moveTo m p l = sets (sets l p (m .home ∷ m .child ∷ m .count ∷ [])) (p + 3) (m .nodes)
 
+-- the Moves are written, the innermost first
 unfoldable pub storeMoves : ℕ → List Move → ℕ → List ℕ → List ℕ
 storeMoves w [] i l = l
 storeMoves w (m ∷ ms) i l = storeMoves w ms i (moveTo m (movePlace w i (length ms)) l)

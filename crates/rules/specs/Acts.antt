@@ -18,10 +18,12 @@ unfoldable pub inner : List Move → Move
 inner [] = newMove 0 0
 inner (v ∷ os) = v
 
+-- the Moves around the innermost one
 unfoldable pub outer : List Move → List Move
 outer [] = []
 outer (v ∷ os) = os
 
+-- the turn of each kind; an idle worker has none, and nothing changes
 unfoldable pub actBy : Kind → ℕ → Settings → Head → List Move → Memory → Step
 actBy Idle w s h ms m = going s h ms m
 actBy Look w s h ms m = searching.look w s h m

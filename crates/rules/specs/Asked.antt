@@ -42,12 +42,15 @@ question5 row column = both (leb row maxSide) (leb column maxSide)
 unfoldable pub nodeInHand : Settings → Head → Bool
 nodeInHand s h = both (leb 1 (h .«held_node»)) (leb (h .«held_node») (s .«nodes_taken»))
 
+-- Take: the spare node, if there is one
 unfoldable pub spareNode : Settings → Head → Bool
 spareNode s h = leb (h .«held_node») (s .«nodes_taken»)
 
+-- Close: the level in hand
 unfoldable pub levelInHand : Settings → Head → Bool
 levelInHand s h = both (leb 1 (h .«held_level»)) (leb (h .«held_level») (s .«levels_taken»))
 
+-- Level: the spare level, if there is one
 unfoldable pub spareLevel : Settings → Head → Bool
 spareLevel s h = leb (h .«held_level») (s .«levels_taken»)
 
@@ -98,6 +101,7 @@ takes s h = both (levelTaken s (h .level)) (spareNode s h)
 unfoldable pub standsAt : Settings → Head → Bool
 standsAt s h = both (levelTaken s (h .level)) (nodeTaken s (h .node))
 
+-- Tail, SetTail: R's next
 unfoldable pub tails : Settings → Head → List ℕ → Bool
 tails s h nodes = both (standsAt s h) (refTaken s (nextAt nodes (h .node)))
 
@@ -113,15 +117,19 @@ closes s h = both (standsAt s h) (levelInHand s h)
 unfoldable pub looks : ℕ → Settings → Head → Memory → Bool
 looks w s h m = both (picksIn w s (h .level) (m .levels)) (readsRef w s (entryOf w h (m .levels)) m)
 
+-- Put: H, and the node in hand; the exchange reads no reference
 unfoldable pub puts : ℕ → Settings → Head → List ℕ → Bool
 puts w s h levels = both (picksIn w s (h .level) levels) (nodeInHand s h)
 
+-- Read: H, the entry, and the pixel of a node in it
 unfoldable pub reads : ℕ → Settings → Head → Memory → Bool
 reads w s h m = both (picksIn w s (h .level) (m .levels)) (comparesRef s (cellAt w m (entryOf w h (m .levels))) (m .nodes))
 
+-- Append: H and R, and the node in hand
 unfoldable pub appends : Settings → Head → Bool
 appends s h = both (standsAt s h) (nodeInHand s h)
 
+-- Follow: H and R, R's next, the pixel of a node there, the way back from a level
 unfoldable pub follows : ℕ → Settings → Head → Memory → Bool
 follows w s h m =
     both (standsAt s h)
@@ -131,16 +139,19 @@ follows w s h m =
 unfoldable pub picksHome : ℕ → Settings → Move → List Move → Memory → Bool
 picksHome w s v os m = both (picksIn w s (v .home) (m .levels)) (keyFits s os (m .nodes))
 
+-- ChainHead: the entry, and room to remember its node
 unfoldable pub chainHeads : ℕ → Settings → Head → Move → List Move → Memory → Bool
 chainHeads w s h v os m =
     both (picksHome w s v os m)
     (both (readsRef w s (homeCell w h v os m) m) (remembers s v (cellAt w m (homeCell w h v os m))))
 
+-- ChainNext: the node remembered last, its next, and room to remember the node there
 unfoldable pub chainNexts : Settings → Move → List ℕ → Bool
 chainNexts s v nodes =
     both (nodeTaken s (lastNode v))
     (both (refTaken s (nextAt nodes (lastNode v))) (remembers s v (nextAt nodes (lastNode v))))
 
+-- MoveEnd: the entry, and the level G that it is written to
 unfoldable pub moveEnds : ℕ → Settings → Move → List Move → Memory → Bool
 moveEnds w s v os m = both (picksHome w s v os m) (levelTaken s (v .child))
 
@@ -152,15 +163,19 @@ setNexts s h v = both (nodeTaken s (lastNode v)) (levelTaken s (h .level))
 unfoldable pub setPuts : ℕ → Settings → Head → Move → Memory → Bool
 setPuts w s h v m = both (picksIn w s (h .level) (m .levels)) (pixelFits s (lastNode v) (m .nodes))
 
+-- SetLook, SetRead: the word in that entry too
 unfoldable pub setLooks : ℕ → Settings → Head → Move → Memory → Bool
 setLooks w s h v m = both (setPuts w s h v m) (readsRef w s (setCellOf w h v m) m)
 
+-- SetAppend: the level, R, and N
 unfoldable pub setAppends : Settings → Head → Move → Bool
 setAppends s h v = both (standsAt s h) (nodeTaken s (lastNode v))
 
+-- SetClose: the level, R, the level in hand, and room for a Move inside
 unfoldable pub setCloses : ℕ → Settings → Head → List Move → List ℕ → Bool
 setCloses w s h ms nodes = both (closes s h) (moveLeft w h ms nodes)
 
+-- SetFollow: the level, R, R's next, the way back from a level
 unfoldable pub setFollows : ℕ → Settings → Head → Memory → Bool
 setFollows w s h m = both (tails s h (m .nodes)) (goesBack w (s .«levels_taken») (h .level) (nextAt (m .nodes) (h .node)) (m .levels))
 
@@ -215,5 +230,6 @@ nodeLeft s h = pick (eqb (h .«held_node») 0) (ltb (s .«nodes_taken») (s .nod
 unfoldable pub takesNode : Kind → Bool
 takesNode k = pick (eqb (kindNo k) 2) true (eqb (kindNo k) 6)
 
+-- asked of Take and TakeTail alone
 unfoldable pub question9 : Settings → Record → Bool
 question9 s r = pick (takesNode (r .head .kind)) (nodeLeft s (r .head)) true

@@ -103,10 +103,12 @@ endingAnswer (Found n) = 1
 endingAnswer Full = 1
 endingAnswer Open = 0
 
+-- whether an event is such a turn
 unfoldable pub ending : Event → Reply → ℕ
 ending (starts i row column) r = 0
 ending (turns i) r = endingAnswer (r .answer)
 
+-- how many there are in a history
 unfoldable pub endings : List Happened → ℕ
 endings [] = 0
 endings (x ∷ xs) = ending (x .event) (x .reply) + endings xs
@@ -115,6 +117,7 @@ endings (x ∷ xs) = ending (x .event) (x .reply) + endings xs
 abbrev pub Book : Type 0
 Book = List (ℕ × ℕ)
 
+-- the book has the pixel with the node
 abbrev pub Holds : Book → ℕ → ℕ → Type 0
 Holds b p n = List·Memᴰ {A = ℕ × ℕ} (p, n) b
 
@@ -122,6 +125,7 @@ Holds b p n = List·Memᴰ {A = ℕ × ℕ} (p, n) b
 abbrev pub HasPixel : Book → ℕ → Type 0
 HasPixel b p = (n : ℕ) × Holds b p n
 
+-- the node stands in the book
 abbrev pub HasNode : Book → ℕ → Type 0
 HasNode b n = (p : ℕ) × Holds b p n
 

@@ -18,6 +18,7 @@ pub record State : Type 0 where
   pub settings : Settings
   pub areas : Areas
 
+-- a state by its parts
 abbrev pub state : Settings → Areas → State
 state s a = record { settings = s; areas = a }
 
@@ -30,6 +31,7 @@ pub record Visit : Type 0 where
   pub worker : ℕ
   pub before : State
 
+-- a visit by its parts
 abbrev pub visit : ℕ → State → Visit
 visit i x = record { worker = i; before = x }
 
@@ -53,6 +55,7 @@ unfoldable pub endState : ℕ → State → List Visit → State
 endState w x [] = x
 endState w x (v ∷ vs) = endState w (after (turnAt w v)) vs
 
+-- the turn at the entry gives 6
 unfoldable pub metSix : ℕ → Visit → Bool
 metSix w v = eqb (turnAt w v .reply .number) 6
 
@@ -60,6 +63,7 @@ metSix w v = eqb (turnAt w v .reply .number) 6
 unfoldable pub counts : ℕ → Visit → Bool
 counts w v = both (question8 (recordOf w (v .before .areas) (v .worker))) (not (metSix w v))
 
+-- "the number of turns done"
 unfoldable pub turnsDone : ℕ → List Visit → ℕ
 turnsDone w [] = 0
 turnsDone w (v ∷ vs) = pick (counts w v) 1 0 + turnsDone w vs
@@ -68,10 +72,12 @@ turnsDone w (v ∷ vs) = pick (counts w v) 1 0 + turnsDone w vs
 unfoldable pub listNumber : ℕ → List Visit → ℕ
 listNumber w vs = pick (every (λ v. not (metSix w v)) vs) 0 6
 
+-- what a list gives: its number, the turns done, and the settings and areas after the last entry reached
 unfoldable pub turnsResult : ℕ → State → List Visit → Result
 turnsResult w x vs =
     result (reply (listNumber w vs) Nothing (turnsDone w vs) (endState w x vs .settings)) (endState w x vs .areas)
 
+-- a list of turns: questions 1 to 4, before any entry
 unfoldable pub listQuestions : ℕ → Settings → List ℕ → Areas → List Question
 listQuestions w s l a =
     asks 1 (question1 s) ∷ asks 2 (question2Of w s a) ∷ asks 3 (question3 w s) ∷ asks 4 (question4All s l) ∷ []

@@ -27,9 +27,11 @@ pub record Result : Type 0 where
   pub reply : Reply
   pub areas : Areas
 
+-- a result by its parts
 abbrev pub result : Reply → Areas → Result
 result r a = record { reply = r; areas = a }
 
+-- a reply: number, answer, turns done, settings
 abbrev pub reply : ℕ → Answer → ℕ → Settings → Reply
 reply n a t s = record { number = n; answer = a; turns = t; settings = s }
 
@@ -45,6 +47,7 @@ unlessRefused n s a done = pick (eqb n 0) done (refused n s a)
 abbrev pub memoryOf : Areas → Memory
 memoryOf a = memory (a .nodes) (a .levels)
 
+-- the record of worker i
 abbrev pub recordOf : ℕ → Areas → ℕ → Record
 recordOf w a i = load w (a .workers) i
 
@@ -56,6 +59,7 @@ question2Of w s a = question2 w s (length (a .nodes)) (length (a .levels)) (leng
 unfoldable pub openingQuestions : ℕ → Settings → Areas → List Question
 openingQuestions w s a = asks 1 (question1 s) ∷ asks 2 (question2Of w s a) ∷ []
 
+-- opening: the settings and areas that it leaves
 unfoldable pub opening : ℕ → Settings → Areas → Result
 opening w s a =
     unlessRefused (firstNo (openingQuestions w s a)) s a (result (reply 0 Nothing 0 (openedSettings s)) (openedAreas w s a))
@@ -76,9 +80,11 @@ startQuestions w s i row column a =
 abbrev pub withRecord : ℕ → ℕ → Record → Areas → Areas
 withRecord w i r a = areas (a .nodes) (a .levels) (store w r i (a .workers))
 
+-- the worker stands before Look at the root
 unfoldable pub startedAreas : ℕ → ℕ → ℕ → ℕ → Areas → Areas
 startedAreas w i row column a = withRecord w i (record′ (started (pixelNumber row column) (recordOf w a i .head)) []) a
 
+-- start of a call: its answer is "open"
 unfoldable pub start : ℕ → Settings → ℕ → ℕ → ℕ → Areas → Result
 start w s i row column a =
     unlessRefused (firstNo (startQuestions w s i row column a)) s a (result (reply 0 Open 0 s) (startedAreas w i row column a))
@@ -104,9 +110,11 @@ taken w t i workers =
 unfoldable pub fullRecord : Head → Record
 fullRecord h = record′ (ended 3 0 (h .«held_node») h) []
 
+-- the call ends "full"
 unfoldable pub full : ℕ → Settings → ℕ → Areas → Result
 full w s i a = result (reply 9 Full 0 s) (withRecord w i (fullRecord (recordOf w a i .head)) a)
 
+-- one turn: refused, ended "full", or carried out
 unfoldable pub turn : ℕ → Settings → ℕ → Areas → Result
 turn w s i a =
     pick (eqb (firstNo (turnQuestions w s i a)) 9)
@@ -123,9 +131,11 @@ lastQuestions w s i a =
     ∷ asks 6 (question6Record w s (recordOf w a i))
     ∷ []
 
+-- the answer that a record holds
 unfoldable pub lastOf : Record → Answer
 lastOf r = pick (question7 r) (answerOf (r .head .answer) (r .head .«answer_node»)) Open
 
+-- last answer: it changes nothing
 unfoldable pub lastAnswer : ℕ → Settings → ℕ → Areas → Result
 lastAnswer w s i a =
     unlessRefused (firstNo (lastQuestions w s i a)) s a (result (reply 0 (lastOf (recordOf w a i)) 0 s) a)

@@ -70,6 +70,7 @@ tail w s h m = going s (peeked h (nextAt (m .nodes) (h .node)) (byCount s (h .co
 unfoldable pub takeTail : Settings → Head → Memory → Step
 takeTail s h m = takeNode Append s h m
 
+-- Append: exchange R's next from H to the node
 unfoldable pub append : ℕ → Settings → Head → Memory → Step
 append w s h m = placed w Follow s h (Next (h .node)) m
 

@@ -39,6 +39,7 @@ leaves w (turns i) x = after (performs w (turns i) x)
 leaves w (lists l limit) x = after (performs w (lists l limit) x)
 leaves w (asks i) x = after (performs w (asks i) x)
 
+-- the state that the operations leave
 unfoldable pub leftBy : ℕ → List Operation → State → State
 leftBy w [] x = x
 leftBy w (o ∷ os) x = leftBy w os (leaves w o x)
@@ -71,10 +72,12 @@ since w (turns i) x h = record { began = h .began; events = h .events ++ eventsO
 since w (lists l limit) x h = record { began = h .began; events = h .events ++ eventsOf w (lists l limit) x }
 since w (asks i) x h = h
 
+-- the same over all operations
 unfoldable pub sinceAll : ℕ → List Operation → State → Since → Since
 sinceAll w [] x h = h
 sinceAll w (o ∷ os) x h = sinceAll w os (leaves w o x) (since w o x h)
 
+-- from a state on
 abbrev pub sinceOpening : ℕ → List Operation → State → Since
 sinceOpening w os x = sinceAll w os x (record { began = x; events = [] })
 
@@ -90,5 +93,6 @@ pub record OperationsMeet (w : ℕ) (x : State) (os : List Operation) : Type 0 w
   -- excludes: a list that stops at a 6 on a table that nobody spoiled; a last answer that finds its record unfit amid a Move
   pub never-6 : (before : List Operation) (o : Operation) (rest : List Operation) → os ≡ before ++ o ∷ rest → performs w o (leftBy w before x) .reply .number ≢ 6
 
+-- for every state that a carried out opening left and every sequence of operations
 abbrev pub OperationsStatement : ℕ → Type 0
 OperationsStatement w = (s : Settings) (a : Areas) → opening w s a .reply .number ≡ 0 → (os : List Operation) → OperationsMeet w (after (opening w s a)) os

@@ -24,6 +24,7 @@ pub record Step : Type 0 where
   pub record′ : Record
   pub memory : Memory
 
+-- a step by its parts
 abbrev pub step : Answer → Settings → Head → List Move → Memory → Step
 step a s h ms m = record { answer = a; settings = s; record′ = record′ h ms; memory = m }
 
@@ -51,6 +52,7 @@ more s c = pick (leb c (s .limit)) (c + 1) (s .limit + 1)
 unfoldable pub tookNode : Settings → Settings
 tookNode s = record { workers = s .workers; limit = s .limit; nodes = s .nodes; «nodes_taken» = s .«nodes_taken» + 1; «levels_taken» = s .«levels_taken» }
 
+-- the settings with one level more taken
 unfoldable pub tookLevel : Settings → Settings
 tookLevel s = record { workers = s .workers; limit = s .limit; nodes = s .nodes; «nodes_taken» = s .«nodes_taken»; «levels_taken» = s .«levels_taken» + 1 }
 

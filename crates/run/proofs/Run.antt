@@ -11,7 +11,7 @@ use Rattle.run.specs.declared.Stage.{Stage}
 use Rattle.run.specs.declared.Stage.the-variants.{Begin, TooLong, First, Lines, Last, Done}
 use Rattle.run.specs.declared.Progress.{Progress}
 use Rattle.run.specs.declared.Told.{Told}
-use Rattle.run.specs.Program.{prints}
+use Rattle.run.specs.Program.{prints, spelled, lent, output}
 use Rattle.run.specs.Remaining.{begun, remainingAt, remaining, left, FineAt, Fine, Next, goesOn, Stop, Runs, printedBy}
 use Rattle.run.proofs.Stages.{next-prints}
 
@@ -44,6 +44,10 @@ tells-all (t ∷ ts) p input a h =
 
 pub run-prints : (input : List ℕ) (a : Areas) (ts : List Stop) → Runs begun input a ts → printedBy ts ≡ prints input a
 run-prints input a ts h = tells-all ts begun input a h ∙ begins input a
+
+-- the bytes that are written
+pub run-writes : (input : List ℕ) (ts : List Stop) → Runs begun input lent ts → spelled (printedBy ts) ≡ output input
+run-writes input ts h = ap spelled (run-prints input lent ts h)
 
 -- a loop over what is told next: it stays where a run can stand, and ends
 module _ (p : Progress) (input : List ℕ) (a : Areas) (b : Areas) (r : Told) {x : Bool} where

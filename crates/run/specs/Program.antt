@@ -5,7 +5,7 @@ use mathlib.Core.List.{List, [], _∷_, _++_}
 use lib.Dec.{eqb, leb}
 use lib.ListN.{length, replicate}
 use Rattle.words.specs.Choice.{pick}
-use Rattle.settings.specs.Sizes.{fresh}
+use Rattle.settings.specs.Sizes.{maxWorkers, nodeWords, levelWords, workerWords, levelCount, fresh}
 use Rattle.settings.specs.declared.Settings.{Settings}
 use Rattle.areas.specs.Memory.{Areas, areas}
 use Rattle.record.specs.declared.Answer.{Answer}
@@ -25,6 +25,7 @@ pub record Line : Type 0 where
   pub printed : Printed
   pub state′ : State
 
+-- a line's result by its parts
 abbrev pub line : Printed → State → Line
 line p x = record { printed = p; state′ = x }
 
@@ -44,20 +45,24 @@ turnPrints n i pixel number answer.Open = Nothing
 unfoldable pub turnLine : ℕ → ℕ → ℕ → Result → Line
 turnLine n i pixel r = line (turnPrints n i pixel (r .reply .number) (r .reply .answer)) (after r)
 
--- line n, which is not the first: a line of another shape, "also a second s", is 10
+-- the digit width of the program's tables
+abbrev pub width : ℕ
+width = 3
+
+-- line n, which is not the first: a line of another shape is 10, and so is a second line s
 unfoldable pub carried : ℕ → Command → State → Line
 carried n (Sizes workers limit nodes) x = line (Refused n 10) x
-carried n (Starts i row column) x = startLine n (start 3 (x .settings) i row column (x .areas))
-carried n (Turns i) x = turnLine n i (recordOf 3 (x .areas) i .head .pixel) (turn 3 (x .settings) i (x .areas))
+carried n (Starts i row column) x = startLine n (start width (x .settings) i row column (x .areas))
+carried n (Turns i) x = turnLine n i (recordOf width (x .areas) i .head .pixel) (turn width (x .settings) i (x .areas))
 carried n Unread x = line (Refused n 10) x
 
--- memory of any content with room for 128 nodes, 16 workers and every chain limit: the program lends zeros
-abbrev pub lent : Areas
-lent = areas (replicate 256 0) (replicate 9130 0) (replicate 2048 0)
+-- "here nodes above 128 is refusal 1"
+abbrev pub mostNodes : ℕ
+mostNodes = 128
 
 -- "First line s,workers,limit,nodes (here nodes above 128 is refusal 1)"; another first line does not read
 unfoldable pub firstLine : Command → Areas → Result
-firstLine (Sizes workers limit nodes) a = pick (leb nodes 128) (opening 3 (fresh workers limit nodes) a) (refused 1 (fresh workers limit nodes) a)
+firstLine (Sizes workers limit nodes) a = pick (leb nodes mostNodes) (opening width (fresh workers limit nodes) a) (refused 1 (fresh workers limit nodes) a)
 firstLine (Starts i row column) a = refused 10 (fresh 0 0 0) a
 firstLine (Turns i) a = refused 10 (fresh 0 0 0) a
 firstLine Unread a = refused 10 (fresh 0 0 0) a
@@ -81,6 +86,7 @@ linesPrint n (p ∷ q ∷ ps) x = carried n (command p) x .printed ∷ linesPrin
 unfoldable pub openedPrints : Result → List (List ℕ) → List Printed
 openedPrints r ps = pick (eqb (r .reply .number) 0) (Nothing ∷ linesPrint 2 ps (after r)) (Refused 1 (r .reply .number) ∷ [])
 
+-- the whole input, part by part
 unfoldable pub inputPrints : List (List ℕ) → Areas → List Printed
 inputPrints [] a = []
 inputPrints (p ∷ []) a = Refused 1 10 ∷ []
@@ -90,9 +96,16 @@ inputPrints (p ∷ q ∷ ps) a = openedPrints (firstLine (command p) a) (q ∷ p
 unfoldable pub prints : List ℕ → Areas → List Printed
 prints input a = Header ∷ pick (leb (length input) 65536) (inputPrints (split lineEnd input) a) (Refused 0 10 ∷ [])
 
+-- the bytes of what is printed
 unfoldable pub spelled : List Printed → List ℕ
 spelled [] = []
 spelled (p ∷ ps) = bytesOf p ++ spelled ps
+
+-- the memory that the program lends: zeros, with room for the most nodes and workers at every chain limit
+abbrev pub lent : Areas
+lent =
+    areas (replicate (nodeWords * mostNodes) 0) (replicate (levelWords width * levelCount width (fresh maxWorkers 1 mostNodes)) 0)
+    (replicate (workerWords width * maxWorkers) 0)
 
 -- the bytes that the program writes for the bytes that it reads
 abbrev pub output : List ℕ → List ℕ

@@ -12,9 +12,11 @@ use Rattle.settings.specs.declared.Settings.{Settings}
 abbrev pub maxWorkers : ℕ
 maxWorkers = 16
 
+-- the most of a chain limit
 abbrev pub maxLimit : ℕ
 maxLimit = 8
 
+-- the most nodes
 abbrev pub maxNodes : ℕ
 maxNodes = 4096
 

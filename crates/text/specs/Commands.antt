@@ -25,6 +25,7 @@ unfoldable pub valueFrom : ℕ → List ℕ → ℕ
 valueFrom n [] = n
 valueFrom n (b ∷ f) = valueFrom (n * 10 + (b - 48)) f
 
+-- the number that the digits of f stand for
 abbrev pub numberOf : List ℕ → ℕ
 numberOf f = valueFrom 0 f
 
@@ -32,6 +33,7 @@ numberOf f = valueFrom 0 f
 abbrev pub field : ℕ → List ℕ → List ℕ
 field n line = part n (split comma line)
 
+-- how many fields a line has
 abbrev pub fieldCount : List ℕ → ℕ
 fieldCount line = length (split comma line)
 
@@ -45,6 +47,7 @@ hasThree x line =
     both (eqb (fieldCount line) 4)
     (both (isLetter x (field 0 line)) (both (isNumber (field 1 line)) (both (isNumber (field 2 line)) (isNumber (field 3 line)))))
 
+-- a line with the letter x and one number
 abbrev pub hasOne : ℕ → List ℕ → Bool
 hasOne x line = both (eqb (fieldCount line) 2) (both (isLetter x (field 0 line)) (isNumber (field 1 line)))
 

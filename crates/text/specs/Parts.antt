@@ -16,6 +16,7 @@ ascii (c then s) = code c ∷ ascii s
 abbrev pub lineEnd : ℕ
 lineEnd = 10
 
+-- the byte of a comma
 abbrev pub comma : ℕ
 comma = 44
 
