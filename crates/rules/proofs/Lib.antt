@@ -59,3 +59,7 @@ pub mod Reach
 pub mod Theorem
 pub mod Operated
 pub mod Consequences
+pub mod ExcessWords
+pub mod ExcessRecords
+pub mod ExcessActs
+pub mod Excess

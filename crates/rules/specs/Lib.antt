@@ -12,6 +12,7 @@ pub mod Lists
 pub mod Reached
 pub mod Calls
 pub mod Refusals
+pub mod Excess
 pub mod Demands
 pub mod Consequences
 pub mod Sequences

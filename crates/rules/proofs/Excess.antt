@@ -1,0 +1,167 @@
+-- "the excess untouched": every operation, over settings and memory of any content, leaves the words past those that question 2 asks for.
+-- Relies on the law of an operation that asks first, and on what a turn's kinds write where its questions are answered yes.
+use Prim.Native.Nat.{ℕ, zero, suc, _≤_, _<_}
+use mathlib.Core.Path.{_≡_, _∙_}
+use mathlib.Core.Logic.{_≢_}
+use mathlib.Core.Bool.{true, false}
+use mathlib.Core.List.{List, [], _∷_}
+use native.Mathlib.Omega.{arith}
+use borrow.Author.Tests.{ltb-true, eqb-true, not-true}
+use Rattle.words.specs.Choice.{asks, firstNo}
+use Rattle.words.proofs.Choice.{pick-both, both-left, both-right}
+use Rattle.settings.specs.Sizes.{levelCount, question3}
+use Rattle.settings.specs.declared.Settings.{Settings}
+use Rattle.areas.specs.Memory.{Areas}
+use Rattle.record.specs.Layout.{Record, load, movesAt}
+use Rattle.record.specs.Fits.{fits}
+use Rattle.record.proofs.Pieces.{first-sized}
+use Rattle.rules.specs.Opening.{openedAreas}
+use Rattle.rules.specs.Acts.{act}
+use Rattle.rules.specs.Asked.{question4, question6, question7, question8, question9}
+use Rattle.rules.specs.Operations.{Result, unlessRefused, memoryOf, recordOf, withRecord, opening, startQuestions, startedAreas, start, turnQuestions, taken, fullRecord, full, turn, lastAnswer}
+use Rattle.rules.specs.Lists.{State, state, after, visits, endState, turnsResult, turns}
+use Rattle.rules.specs.Excess.{Untouched, ExcessStays}
+use Rattle.rules.proofs.Questions.{first-later}
+use Rattle.rules.proofs.Invariant.{SameSizes}
+use Rattle.rules.proofs.ExcessWords.{same-refl, same-then, same-fill, same-level}
+use Rattle.rules.proofs.ExcessRecords.{Roomy, same-store, roomy-none, roomy-few, few-moves}
+use Rattle.rules.proofs.ExcessActs.{Tame, sizes-same, kind-tame}
+
+untouched-refl : (w : ℕ) (s : Settings) (a : Areas) → Untouched w s a a
+untouched-refl w s a = record { nodes = same-refl _ _; levels = same-refl _ _; workers = same-refl _ _ }
+
+untouched-then : {w : ℕ} {s : Settings} {a a′ a″ : Areas} → Untouched w s a a′ → Untouched w s a′ a″ → Untouched w s a a″
+untouched-then p q =
+    record {
+      nodes = same-then (p .nodes) (q .nodes);
+      levels = same-then (p .levels) (q .levels);
+      workers = same-then (p .workers) (q .workers);
+    }
+
+-- what is excess depends on the sizes alone
+untouched-sizes : (w : ℕ) {s s′ : Settings} {a a′ : Areas} → SameSizes s s′ → Untouched w s′ a a′ → Untouched w s a a′
+unfolding levelCount
+untouched-sizes w z u =
+    record {
+      nodes = rw (z .nodes-is) at (u .nodes);
+      levels = rw (z .nodes-is, z .limit-is, z .workers-is) at (u .levels);
+      workers = rw (z .workers-is) at (u .workers);
+    }
+
+-- an operation that asks first
+unless-untouched : {w : ℕ} {s : Settings} {a : Areas} (n : ℕ) (done : Result) → (n ≡ 0 → Untouched w s a (done .areas)) → Untouched w s a (unlessRefused n s a done .areas)
+unfolding unlessRefused
+unless-untouched {w} {s} {a} n done f = pick-both (λ (r : Result). Untouched w s a (r .areas)) _ (λ e. f (eqb-true n 0 e)) (λ e. untouched-refl w s a)
+
+-- another record of a worker below workers
+with-record : (w : ℕ) (s : Settings) (i : ℕ) (r : Record) (a : Areas) → Roomy w (r .moves) → question4 s i ≡ true → Untouched w s a (withRecord w i r a)
+unfolding question4
+with-record w s i r a f q = record { nodes = same-refl _ _; levels = same-refl _ _; workers = same-store w r i (a .workers) f (ltb-true _ _ q) }
+
+module _ (w : ℕ) (s : Settings) where
+  opening-untouched : (a : Areas) → Untouched w s a (opening w s a .areas)
+  unfolding opening openedAreas levelCount
+  opening-untouched a =
+      unless-untouched _ _ (λ z. record { nodes = same-refl _ _; levels = same-level w (a .levels) 0 _ _ some-level; workers = same-fill (a .workers) 0 _ 0 (omega arith) })
+    where
+      some-level : 0 < levelCount w s
+      some-level = omega arith
+
+  last-untouched : (i : ℕ) (a : Areas) → Untouched w s a (lastAnswer w s i a .areas)
+  unfolding lastAnswer
+  last-untouched i a = unless-untouched _ _ (λ z. untouched-refl w s a)
+
+  start-untouched : (i row column : ℕ) (a : Areas) → Untouched w s a (start w s i row column a .areas)
+  unfolding start startQuestions startedAreas
+  start-untouched i row column a = unless-untouched _ _ (λ z. with-record w s i _ a (roomy-none w) (below z))
+    where
+      below : firstNo (startQuestions w s i row column a) ≡ 0 → question4 s i ≡ true
+      below z =
+          let (y₁, e₁) = first-later 1 _ _ (λ y. omega arith) z in
+          let (y₂, e₂) = first-later 2 _ _ (λ y. omega arith) e₁ in
+          let (y₃, e₃) = first-later 3 _ _ (λ y. omega arith) e₂ in
+          first-later 4 _ _ (λ y. omega arith) e₃ .0
+
+  -- what is asked before question 9
+  record Asked (i : ℕ) (a : Areas) (n : ℕ) : Type 0 where
+    pub counters : question3 w s ≡ true
+    pub below : question4 s i ≡ true
+    pub reads : question6 w s (recordOf w a i) (memoryOf a) ≡ true
+    pub busy : question7 (recordOf w a i) ≡ false
+    pub gives : firstNo (asks 9 (question9 s (recordOf w a i)) ∷ []) ≡ n
+
+  asked : (i : ℕ) (a : Areas) {n : ℕ} → ((k : ℕ) → 1 ≤ k → k ≤ 8 → k ≢ n) → firstNo (turnQuestions w s i a) ≡ n → Asked i a n
+  unfolding turnQuestions question8
+  asked i a d e =
+      let (y₁, e₁) = first-later 1 _ _ (d 1 (omega arith) (omega arith)) e in
+      let (y₂, e₂) = first-later 2 _ _ (d 2 (omega arith) (omega arith)) e₁ in
+      let (y₃, e₃) = first-later 3 _ _ (d 3 (omega arith) (omega arith)) e₂ in
+      let (y₄, e₄) = first-later 4 _ _ (d 4 (omega arith) (omega arith)) e₃ in
+      let (y₆, e₆) = first-later 6 _ _ (d 6 (omega arith) (omega arith)) e₄ in
+      let (y₈, e₈) = first-later 8 _ _ (d 8 (omega arith) (omega arith)) e₆ in
+      record { counters = y₃; below = y₄; reads = y₆; busy = not-true _ y₈; gives = e₈ }
+
+  -- the Moves of a record that fits, of a worker with a call open
+  loaded : (l : List ℕ) (i : ℕ) → fits w s (load w l i) ≡ true → question7 (load w l i) ≡ false → Roomy w (load w l i .moves)
+  unfolding fits question7 load
+  loaded l i e b = roomy-few w (load w l i .moves) (first-sized w l i (movesAt w l i)) (few-moves w s _ (load w l i) b e)
+
+  -- a turn whose questions are all answered yes
+  act-tame : (i : ℕ) (a : Areas) → Asked i a 0 → Tame w s (memoryOf a) (act w s (recordOf w a i) (memoryOf a))
+  unfolding act question6 question9
+  act-tame i a y =
+      let r : Record = recordOf w a i in
+      kind-tame w s (y .counters) (r .head) (memoryOf a) (r .head .kind) (r .moves) (loaded (a .workers) i (both-left _ _ (y .reads)) (y .busy)) (both-right _ _ (y .reads)) (first-later 9 _ _ (λ z. omega arith) (y .gives) .0)
+
+  -- a turn leaves the excess and the sizes
+  record Turned (a : Areas) (r : Result) : Type 0 where
+    pub areas : Untouched w s a (r .areas)
+    pub sizes : SameSizes s (r .reply .settings)
+
+  turn-untouched : (i : ℕ) (a : Areas) → Turned a (turn w s i a)
+  unfolding turn unlessRefused full fullRecord taken
+  turn-untouched i a =
+      pick-both (Turned a) _
+      (λ e. is-full (eqb-true _ _ e))
+      (λ e. pick-both (Turned a) _ (λ z. is-taken (eqb-true _ _ z)) (λ z. record { areas = untouched-refl w s a; sizes = sizes-same s }))
+    where
+      is-full : firstNo (turnQuestions w s i a) ≡ 9 → Turned a (full w s i a)
+      is-full e =
+          let y = asked i a (λ k l h z. omega arith) e in
+          record { areas = with-record w s i _ a (roomy-none w) (y .below); sizes = sizes-same s }
+
+      is-taken : firstNo (turnQuestions w s i a) ≡ 0 → Turned a (taken w (act w s (recordOf w a i) (memoryOf a)) i (a .workers))
+      is-taken e =
+          let y = asked i a (λ k l h z. omega arith) e in
+          let t = act-tame i a y in
+          record {
+            areas = record { nodes = t .memory .nodes; levels = t .memory .levels; workers = with-record w s i _ a (t .moves) (y .below) .workers };
+            sizes = t .sizes;
+          }
+
+-- sizes that stay twice stay
+sizes-then : {s s′ s″ : Settings} → SameSizes s s′ → SameSizes s′ s″ → SameSizes s s″
+sizes-then p q = record { workers-is = q .workers-is ∙ p .workers-is; limit-is = q .limit-is ∙ p .limit-is; nodes-is = q .nodes-is ∙ p .nodes-is }
+
+-- the entries of a list that are reached
+end-untouched : (w : ℕ) (s : Settings) (l : List ℕ) (n : ℕ) (x : State) → SameSizes s (x .settings) → Untouched w s (x .areas) (endState w x (visits w l n x) .areas)
+unfolding endState visits
+end-untouched w s [] n x z = untouched-refl w s (x .areas)
+end-untouched w s (i ∷ l) zero x z = untouched-refl w s (x .areas)
+end-untouched w s (i ∷ l) (suc n) x z =
+    let t = turn-untouched w (x .settings) i (x .areas) in
+    untouched-then (untouched-sizes w z (t .areas)) (end-untouched w s l _ (after (turn w (x .settings) i (x .areas))) (sizes-then z (t .sizes)))
+
+turns-untouched : (w : ℕ) (s : Settings) (l : List ℕ) (limit : ℕ) (a : Areas) → Untouched w s a (turns w s l limit a .areas)
+unfolding turns turnsResult
+turns-untouched w s l limit a = unless-untouched _ _ (λ z. end-untouched w s l limit (state s a) (sizes-same s))
+
+pub excess-stays : (w : ℕ) → ExcessStays w
+excess-stays w =
+    record {
+      of-opening = opening-untouched w;
+      of-start = start-untouched w;
+      of-turn = λ s i a. turn-untouched w s i a .areas;
+      of-turns = turns-untouched w;
+      of-last = last-untouched w;
+    }

@@ -1,0 +1,177 @@
+-- What a turn does, by kind: where its questions are answered yes, it writes only below the sizes, and its record has room.
+-- Relies on the definitions of the kinds and of question 6, and on what a write below the sizes leaves.
+use Prim.Native.Nat.{ℕ, _-_, _≤_, _<_}
+use mathlib.Core.Path.{_≡_, refl, sym, _∙_}
+use mathlib.Core.Logic.{_≢_}
+use mathlib.Core.Bool.{true, false}
+use mathlib.Core.List.{List, [], _∷_}
+use native.Mathlib.Omega.{arith}
+use lib.Dec.{eqb, leb}
+use borrow.Author.Tests.{leb-true, ltb-true, eqb-false}
+use Rattle.words.specs.Choice.{pick}
+use Rattle.words.proofs.Choice.{pick-both, pick-true, both-left, both-right}
+use Rattle.settings.specs.Sizes.{levelCount, question3}
+use Rattle.settings.specs.declared.Settings.{Settings}
+use Rattle.settings.proofs.Laws.{within-true}
+use Rattle.areas.specs.Memory.{Memory, isNode, nextAt, entryCell, levelTaken, nodeTaken}
+use Rattle.areas.specs.declared.Cell.{Cell}
+use Rattle.areas.specs.declared.Cell.the-variants.{Next}
+use Rattle.record.specs.declared.Answer.{Answer}
+use Rattle.record.specs.declared.Kind.{Kind}
+use Rattle.record.specs.declared.Kind.the-variants.{Idle, Look, Take, Put, Read, Tail, TakeTail, Append, Level, Close, Follow, ChainHead, ChainNext, SetNext, SetLook, SetPut, SetRead, SetTail, SetAppend, SetLevel, SetClose, SetFollow, MoveEnd, Unknown}
+use Rattle.record.specs.declared.Head.{Head}
+use Rattle.record.specs.declared.Move.{Move}
+use Rattle.record.specs.Kinds.{kindNo}
+use Rattle.record.specs.Layout.{newMove}
+use Rattle.rules.specs.Heads.{lastNode}
+use Rattle.rules.specs.Steps.{Step, step, expected, tookNode, tookLevel, withNode, takeNode, withLevel, takeLevel, closed}
+use Rattle.rules.specs.Searching as searching
+use Rattle.rules.specs.Moving as moving
+use Rattle.rules.specs.Acts.{inner, outer, actBy}
+use Rattle.rules.specs.Asked.{picksIn, spareNode, spareLevel, levelLeft, moveLeft, takes, standsAt, takesLevel, closes, puts, appends, picksHome, moveEnds, setNexts, setPuts, setAppends, setCloses, takesNode, nodeLeft, readsBy}
+use Rattle.rules.proofs.Invariant.{SameSizes}
+use Rattle.rules.proofs.ExcessWords.{same-refl, same-node, same-level, SameMemory, memory-refl, CellBelow, digit-below, same-cell}
+use Rattle.rules.proofs.ExcessRecords.{Roomy, roomy-none, one-move, whole, around, pushed, remembered, forgotten}
+
+-- a step that leaves the excess, keeps the sizes, and whose record has room
+pub record Tame (w : ℕ) (s : Settings) (m : Memory) (t : Step) : Type 0 where
+  pub memory : SameMemory w s m (t .memory)
+  pub moves : Roomy w (t .record′ .moves)
+  pub sizes : SameSizes s (t .settings)
+
+-- the sizes stay, also where one more node or level is taken
+pub sizes-same : (s : Settings) → SameSizes s s
+sizes-same s = record { workers-is = refl; limit-is = refl; nodes-is = refl }
+
+sizes-node : (s : Settings) → SameSizes s (tookNode s)
+unfolding tookNode
+sizes-node s = record { workers-is = refl; limit-is = refl; nodes-is = refl }
+
+sizes-level : (s : Settings) → SameSizes s (tookLevel s)
+unfolding tookLevel
+sizes-level s = record { workers-is = refl; limit-is = refl; nodes-is = refl }
+
+-- a spare number (held, plus 1) lies below what is taken
+spare-below : {held taken size : ℕ} → eqb held 0 ≡ false → held ≤ taken → taken ≤ size → held - 1 < size
+spare-below {held} e l n = let z : held ≢ 0 = eqb-false _ _ e in omega arith
+
+-- numbers that are taken lie below the sizes
+module _ (w : ℕ) (s : Settings) (q : question3 w s ≡ true) where
+  nodes-le : s .«nodes_taken» ≤ s .nodes
+  unfolding question3
+  nodes-le = leb-true _ _ (both-left _ _ q)
+
+  levels-le : s .«levels_taken» ≤ levelCount w s
+  unfolding question3
+  levels-le = within-true _ _ (both-right (leb (s .«nodes_taken») (s .nodes)) _ q) .high
+
+  node-below : {i : ℕ} → nodeTaken s i ≡ true → i < s .nodes
+  unfolding nodeTaken
+  node-below {i} e = let t : i < s .«nodes_taken» = ltb-true _ _ e in let l = nodes-le in omega arith
+
+  level-below : {g : ℕ} → levelTaken s g ≡ true → g < levelCount w s
+  unfolding levelTaken
+  level-below {g} e = let t : g < s .«levels_taken» = ltb-true _ _ e in let l = levels-le in omega arith
+
+  -- an entry that is picked in a level
+  entry-below : (g p : ℕ) (levels : List ℕ) → picksIn w s g levels ≡ true → CellBelow w s (entryCell w levels g p)
+  unfolding picksIn
+  entry-below g p levels e = digit-below w s levels g p (level-below (both-left _ _ e))
+
+  stands-below : (h : Head) → standsAt s h ≡ true → h .node < s .nodes
+  unfolding standsAt
+  stands-below h e = node-below (both-right _ _ e)
+
+  -- the steps of searching and moving
+  module _ (h : Head) (m : Memory) where
+    writes : {a : Answer} {h′ : Head} {ms : List Move} {m′ : Memory} → SameMemory w s m m′ → Roomy w ms → Tame w s m (step a s h′ ms m′)
+    writes k f = record { memory = k; moves = f; sizes = sizes-same s }
+
+    still : {a : Answer} {h′ : Head} {ms : List Move} → Roomy w ms → Tame w s m (step a s h′ ms m)
+    still = writes (memory-refl w s m)
+
+    placed-tame : (k : Kind) (x : Cell) → CellBelow w s x → Tame w s m (searching.placed w k s h x m)
+    unfolding searching.placed
+    placed-tame k x b = pick-both (Tame w s m) (expected h _) (λ e. writes (same-cell w s m x _ b) (roomy-none w)) (λ e. still (roomy-none w))
+
+    met-tame : (c g word : ℕ) → Tame w s m (searching.met s h c g word m)
+    unfolding searching.met searching.metNode
+    met-tame c g word =
+        pick-both (Tame w s m) (isNode word)
+        (λ e. pick-both (Tame w s m) (eqb _ (h .pixel)) (λ q. still (roomy-none w)) (λ q. still (roomy-none w)))
+        (λ e. still (roomy-none w))
+
+    -- a node is filled
+    node-tame : (k : Kind) (s′ : Settings) (i : ℕ) → SameSizes s s′ → i < s .nodes → Tame w s m (withNode k s′ h i m)
+    unfolding withNode
+    node-tame k s′ i z l =
+        record { memory = record { nodes = same-node (m .nodes) i _ _ l; levels = same-refl _ _ }; moves = roomy-none w; sizes = z }
+
+    take-tame : (k : Kind) → takes s h ≡ true → nodeLeft s h ≡ true → Tame w s m (takeNode k s h m)
+    unfolding takeNode takes spareNode nodeLeft
+    take-tame k t y =
+        pick-both (Tame w s m) (eqb (h .«held_node») 0)
+        (λ e. node-tame k _ (s .«nodes_taken») (sizes-node s) (ltb-true _ _ (sym (pick-true _ _ _ e) ∙ y)))
+        (λ e. node-tame k s (h .«held_node» - 1) (sizes-same s) (spare-below e (leb-true _ _ (both-right _ _ t)) nodes-le))
+
+    -- a level is filled
+    level-tame : (k : Kind) (s′ : Settings) (ms : List Move) (g : ℕ) → SameSizes s s′ → Roomy w ms → g < levelCount w s → Tame w s m (withLevel w k s′ h ms g m)
+    unfolding withLevel
+    level-tame k s′ ms g z f l =
+        record { memory = record { nodes = same-refl _ _; levels = same-level w (m .levels) g _ _ l }; moves = f; sizes = z }
+
+    take-level-tame : (k : Kind) (ms : List Move) → Roomy w ms → takesLevel w s h (m .levels) ≡ true → Tame w s m (takeLevel w k s h ms m)
+    unfolding takeLevel takesLevel spareLevel levelLeft
+    take-level-tame k ms f t =
+        let t₁ = both-right _ _ t in
+        pick-both (Tame w s m) (eqb (h .«held_level») 0)
+        (λ e. level-tame k _ ms (s .«levels_taken») (sizes-level s) f (ltb-true _ _ (sym (pick-true _ _ _ e) ∙ both-right _ _ (both-right _ _ t₁))))
+        (λ e. level-tame k s ms (h .«held_level» - 1) (sizes-same s) f (spare-below e (leb-true _ _ (both-left _ _ t₁)) levels-le))
+
+    closed-tame : (k : Kind) (ms : List Move) → closes s h ≡ true → Roomy w ms → (expected h (nextAt (m .nodes) (h .node)) ≡ true → Roomy w (newMove (h .level) (h .«held_level» - 1) ∷ ms)) → Tame w s m (closed w k s h ms m)
+    unfolding closed closes
+    closed-tame k ms t f g =
+        pick-both (Tame w s m) (expected h _)
+        (λ e. writes (same-cell w s m (Next (h .node)) _ (stands-below h (both-left _ _ t))) (g e))
+        (λ e. still f)
+
+    chain-tame : (v : Move) (os : List Move) (word : ℕ) → Roomy w (v ∷ os) → Tame w s m (moving.chainWord s h v os word m)
+    unfolding moving.chainWord moving.setLast
+    chain-tame v os word f = pick-both (Tame w s m) (isNode word) (λ e. still (remembered w _ f)) (λ e. still f)
+
+    set-tame : (k : Kind) (v : Move) (os : List Move) (x : Cell) → CellBelow w s x → Roomy w (v ∷ os) → Tame w s m (moving.setNode w k s h v os x m)
+    unfolding moving.setNode moving.setLast
+    set-tame k v os x b f = pick-both (Tame w s m) (expected h _) (λ e. writes (same-cell w s m x _ b) (forgotten w f)) (λ e. still f)
+
+    -- a Move inside a Move has room where the exchange would be done
+    inside : (ms : List Move) → Roomy w ms → moveLeft w h ms (m .nodes) ≡ true → expected h (nextAt (m .nodes) (h .node)) ≡ true → Roomy w (newMove (h .level) (h .«held_level» - 1) ∷ inner ms ∷ outer ms)
+    unfolding moveLeft
+    inside ms f y e = pushed w ms _ _ f (ltb-true _ _ (sym (pick-true _ _ _ e) ∙ y))
+
+    -- by kind
+    pub kind-tame : (k : Kind) (ms : List Move) → Roomy w ms → readsBy k w s h ms m ≡ true → pick (takesNode k) (nodeLeft s h) true ≡ true → Tame w s m (actBy k w s h ms m)
+    unfolding actBy readsBy takesNode kindNo pick searching.look searching.take searching.put searching.entryOf searching.read searching.readWord searching.tail searching.takeTail searching.append searching.level searching.close searching.follow searching.followWord moving.chainHead moving.chainNext moving.setNext moving.setLook moving.setPut moving.setCellOf moving.setRead moving.setReadWord moving.setMet moving.setTail moving.setAppend moving.setLevel moving.setClose moving.setFollow moving.setFollowWord moving.moveEnd moving.homeCell puts appends setNexts setPuts setAppends setCloses moveEnds picksHome
+    kind-tame Idle ms f y n = still f
+    kind-tame Look ms f y n = still (roomy-none w)
+    kind-tame Take ms f y n = take-tame Put y n
+    kind-tame Put ms f y n = placed-tame Read _ (entry-below _ _ _ (both-left _ _ y))
+    kind-tame Read ms f y n = met-tame _ _ _
+    kind-tame Tail ms f y n = still (roomy-none w)
+    kind-tame TakeTail ms f y n = take-tame Append y n
+    kind-tame Append ms f y n = placed-tame Follow (Next (h .node)) (stands-below h (both-left _ _ y))
+    kind-tame Level ms f y n = take-level-tame Close [] (roomy-none w) y
+    kind-tame Close ms f y n = closed-tame Follow [] y (roomy-none w) (λ e. one-move w _ _)
+    kind-tame Follow ms f y n = met-tame _ _ _
+    kind-tame ChainHead ms f y n = chain-tame _ _ _ (whole w ms f)
+    kind-tame ChainNext ms f y n = chain-tame _ _ _ (whole w ms f)
+    kind-tame SetNext ms f y n = writes (same-cell w s m (Next (lastNode (inner ms))) _ (node-below (both-left _ _ y))) (whole w ms f)
+    kind-tame SetLook ms f y n = still (whole w ms f)
+    kind-tame SetPut ms f y n = set-tame SetRead _ _ _ (entry-below _ _ _ (both-left _ _ y)) (whole w ms f)
+    kind-tame SetRead ms f y n = still (whole w ms f)
+    kind-tame SetTail ms f y n = still (whole w ms f)
+    kind-tame SetAppend ms f y n = set-tame SetFollow _ _ (Next (h .node)) (stands-below h (both-left _ _ y)) (whole w ms f)
+    kind-tame SetLevel ms f y n = take-level-tame SetClose _ (whole w ms f) y
+    kind-tame SetClose ms f y n = closed-tame SetFollow _ (both-left _ _ y) (whole w ms f) (inside ms f (both-right _ _ y))
+    kind-tame SetFollow ms f y n = still (whole w ms f)
+    kind-tame MoveEnd ms f y n = writes (same-cell w s m _ _ (entry-below _ _ _ (both-left _ _ (both-left _ _ y)))) (around w ms f)
+    kind-tame Unknown ms f y n = still f
