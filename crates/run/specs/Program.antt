@@ -1,6 +1,6 @@
 -- The text program: what each line prints and leaves, and the whole run over the bytes of its input.
 -- Relies on the text format and on the operations' definitions.
-use Prim.Native.Nat.{ℕ, suc}
+use Prim.Native.Nat.{ℕ, suc, _*_}
 use mathlib.Core.List.{List, [], _∷_, _++_}
 use lib.Dec.{eqb, leb}
 use lib.ListN.{length, replicate}
