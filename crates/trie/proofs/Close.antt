@@ -12,8 +12,8 @@ use Rattle.trie.proofs.Lists.{_∈_, no-members}
 use Rattle.trie.proofs.Chain.{levelRef, ent-nxt, links-end}
 use Rattle.trie.proofs.Tree.{Published, Child, Closed, TreeOk, Inside, here, inside-mono}
 use Rattle.trie.proofs.World.{World, lastCell, NodeInside, RefInside, to-level, to-node, Homed, SlotOk, Structure, Partition}
-use Rattle.trie.proofs.Evolve.{Grows, Spares, same}
-use Rattle.trie.proofs.Frame.{one-slot, ends-apart, entry-away, node-away, held-away, level-away, slot-frame}
+use Rattle.trie.proofs.Evolve.{Grows, Spares, same, none-noted, ref-stays, homed-stays}
+use Rattle.trie.proofs.Frame.{one-slot, ends-apart, entry-away, node-away, held-away, level-away, slot-other}
 
 -- the chain of (H, e) closed by level G, which worker v (its number + 2) will move
 abbrev pub close : {δ : Dims} → World δ → ℕ → ℕ → ℕ → ℕ → World δ
@@ -56,7 +56,7 @@ module _ {δ : Dims} {w : World δ} (S : Structure w) {H e G : ℕ} (k : CanClos
   G-not-root : G ≢ 0
   G-not-root q = not-G (S .tree-ok .root) (sym q)
 
-  pub published : (g : ℕ) → Published (w .tree) g → Published (after .tree) g
+  published : (g : ℕ) → Published (w .tree) g → Published (after .tree) g
   published g p = upd-other (w .tree .levelOwner) G 0 g (not-G p) ∙ p
 
   was : {g : ℕ} → g ≢ G → Published (after .tree) g → Published (w .tree) g
@@ -127,26 +127,19 @@ module _ {δ : Dims} {w : World δ} (S : Structure w) {H e G : ℕ} (k : CanClos
       bounded′ g p (yes q) = rw (q, k .depth-is) (k .not-deepest)
       bounded′ g p (no q) = S .tree-ok .bounded g (was q p)
 
-  level-stays : {c t : ℕ} → Inside (w .tree) c t → Inside (after .tree) c t
-  level-stays i = inside-mono published (λ g p. refl) i
-
-  pub inside-stays : {c m : ℕ} → NodeInside w c m → NodeInside after c m
-  inside-stays i = record { placed = i .placed; inside = level-stays (i .inside) }
-
-  ref-stays : (c r : ℕ) → RefInside w c r → RefInside after c r
-  ref-stays c r (to-level t p i) = to-level t p (level-stays i)
-  ref-stays c r (to-node m p i) = to-node m p (inside-stays i)
-
-  homed′ : (m g d : ℕ) → m ∈ w .chain g d → Homed after m g d
-  homed′ m g d i =
-      let h = S .homed m g d i in
+  pub close-grows : Grows w after
+  close-grows =
       record {
-        level = published g (h .level);
-        at = h .at;
-        placed = h .placed;
-        home-is = h .home-is;
-        small = h .small;
-        prefix = h .prefix;
+        published = published;
+        prev-is = λ g p. refl;
+        depth-is = λ g p. refl;
+        pfx-is = λ g p. refl;
+        into-is = λ g d p. into-other g d (old-entry g d p);
+        pixel-is = λ m p. refl;
+        placed-stays = λ m p. p;
+        inside-stays = λ c m i. record { placed = i .placed; inside = inside-mono published (λ g p. refl) (i .inside) };
+        changed = λ g d. same refl;
+        book-grows = none-noted (w .book);
       }
 
   -- the new level's chains are empty and open
@@ -183,18 +176,11 @@ module _ {δ : Dims} {w : World δ} (S : Structure w) {H e G : ℕ} (k : CanClos
         direct = λ t z c q. let y : x ≡ ent H e = rw c refl in let k = ap (after .cell) (sym y) ∙ at in let j : t ≡ G = omega arith in j ∙ sym into-at;
       }
 
-  slot-other : (g d : ℕ) → ¬ ((g ≡ H) × (d ≡ e)) → SlotOk w g d → SlotOk after g d
-  slot-other g d q s =
-      slot-frame (w .cell) (after .cell) (w .chain g d) g d (into-other g d q)
-      (updC-other (w .cell) (lastCell w H e) (levelRef G) (ent g d) (entry-away w q))
-      (λ m i. updC-other (w .cell) (lastCell w H e) (levelRef G) (nxt m) (node-away w (λ j. q (one-slot S i j))))
-      ref-stays s
-
   pub close-structure : Structure after
   close-structure =
       record {
         tree-ok = tree-ok′;
-        homed = homed′;
+        homed = λ m g d i. homed-stays close-grows refl (S .homed m g d i);
         in-chain = S .in-chain;
         once = S .once;
         slot = λ g d p l. by g d p l (ℕ-discrete g G) (same-entry? g d H e);
@@ -203,25 +189,7 @@ module _ {δ : Dims} {w : World δ} (S : Structure w) {H e G : ℕ} (k : CanClos
       by : (g d : ℕ) → Published (after .tree) g → d < δ .base → Dec (g ≡ G) → Dec ((g ≡ H) × (d ≡ e)) → SlotOk after g d
       by g d p l (yes q) x = rw q (slot-G d l)
       by g d p l (no q) (yes x) = rw (x .0, x .1) slot-H
-      by g d p l (no q) (no x) = slot-other g d x (S .slot g d (was q p) l)
-
-  pub close-partition : Partition w → Partition after
-  close-partition Q = record { noted = Q .noted; noted-placed = Q .noted-placed; noted-once = Q .noted-once; one-node = Q .one-node }
-
-  pub close-grows : Grows w after
-  close-grows =
-      record {
-        published = published;
-        prev-is = λ g p. refl;
-        depth-is = λ g p. refl;
-        pfx-is = λ g p. refl;
-        into-is = λ g d p. into-other g d (old-entry g d p);
-        pixel-is = λ m p. refl;
-        placed-stays = λ m p. p;
-        inside-stays = λ c m i. inside-stays i;
-        changed = λ g d. same refl;
-        book-grows = ([], sym (append-nil (w .book)));
-      }
+      by g d p l (no q) (no x) = slot-other S H e (levelRef G) g d x (into-other g d x) (ref-stays close-grows) (S .slot g d (was q p) l)
 
   -- another worker u sees a level more
   pub close-spares : (u : ℕ) → u ≢ 0 → w .tree .levelOwner G ≢ u → Spares u w after

@@ -7,9 +7,9 @@ use Prim.Native.Nat.{ℕ, _≤_}
 use Rattle.trie.proofs.Digits.{Dims, top}
 use Rattle.trie.proofs.Update.{ent, nxt}
 use Rattle.trie.proofs.Lists.{_∈_, Cut, kept, went, cut-append}
-use Rattle.trie.proofs.Tree.{Published, Inside, inside-mono, OnPath, deepest}
+use Rattle.trie.proofs.Tree.{Published, Inside, here, inside-mono, OnPath, deepest}
 use Rattle.trie.proofs.Read.{home-path}
-use Rattle.trie.proofs.World.{World, Placed, lastCell, NodeInside, Structure, Deep, Walk, along, gone, Other}
+use Rattle.trie.proofs.World.{World, Placed, lastCell, NodeInside, RefInside, to-level, to-node, Homed, Structure, Partition, Deep, Walk, along, gone, Other}
 
 -- How a chain may have changed: not; longer while open; shorter by nodes that went into the child
 pub data Changed {δ : Dims} (w w′ : World δ) (g e : ℕ) : Type 0 where
@@ -38,21 +38,29 @@ pub record Spares {δ : Dims} (v : ℕ) (w w′ : World δ) : Type 0 where
   -- the chain that v moves
   pub my-move : (g e : ℕ) → w .tree .into g e ≢ 0 → w .mover (w .tree .into g e) ≡ v → (w′ .mover (w .tree .into g e) ≡ v) × (w′ .chain g e ≡ w .chain g e) × (w′ .cell (lastCell w g e) ≡ w .cell (lastCell w g e))
 
+-- a book in which nothing was noted
+pub none-noted : (book : List ℕ) → (more : List ℕ) × (book ≡ book ++ more)
+none-noted book = ([], sym (append-nil book))
+
+-- an effect that leaves the levels as they were
+pub grows-tree : {δ : Dims} {w w′ : World δ} → w′ .tree ≡ w .tree → ((n : ℕ) → Placed w n → w′ .pixel n ≡ w .pixel n) → ((c n : ℕ) → NodeInside w c n → NodeInside w′ c n) → ((g e : ℕ) → Changed w w′ g e) → ((more : List ℕ) × (w′ .book ≡ w .book ++ more)) → Grows w w′
+grows-tree {δ} {w} {w′} t pixel inside changed book =
+    record {
+      published = λ g p. rw t p;
+      prev-is = λ g p. rw t refl;
+      depth-is = λ g p. rw t refl;
+      pfx-is = λ g p. rw t refl;
+      into-is = λ g e z. rw t refl;
+      pixel-is = pixel;
+      placed-stays = λ n p. inside (w .home n) n (record { placed = p; inside = here refl }) .placed;
+      inside-stays = inside;
+      changed = changed;
+      book-grows = book;
+    }
+
 -- an event that changes no word
 pub grows-refl : {δ : Dims} (w : World δ) → Grows w w
-grows-refl w =
-    record {
-      published = λ g p. p;
-      prev-is = λ g p. refl;
-      depth-is = λ g p. refl;
-      pfx-is = λ g p. refl;
-      into-is = λ g e z. refl;
-      pixel-is = λ n p. refl;
-      placed-stays = λ n p. p;
-      inside-stays = λ c n i. i;
-      changed = λ g e. same refl;
-      book-grows = ([], sym (append-nil (w .book)));
-    }
+grows-refl w = grows-tree refl (λ n p. refl) (λ c n i. i) (λ g e. same refl) (none-noted (w .book))
 
 module _ {δ : Dims} {w w′ : World δ} (E : Grows w w′) where
   pub path-stays : {K h : ℕ} → OnPath (w .tree) K h → OnPath (w′ .tree) K h
@@ -60,6 +68,32 @@ module _ {δ : Dims} {w w′ : World δ} (E : Grows w w′) where
 
   pub level-stays : {c t : ℕ} → Inside (w .tree) c t → Inside (w′ .tree) c t
   level-stays i = inside-mono (E .published) (E .prev-is) i
+
+  pub ref-stays : (c r : ℕ) → RefInside w c r → RefInside w′ c r
+  ref-stays c r (to-level t p i) = to-level t p (level-stays i)
+  ref-stays c r (to-node n p i) = to-node n p (E .inside-stays c n i)
+
+  pub homed-stays : {n g e : ℕ} → w′ .home n ≡ w .home n → Homed w n g e → Homed w′ n g e
+  homed-stays {n} {g} q h =
+      let x = E .pixel-is n (h .placed) in
+      record {
+        level = E .published g (h .level);
+        at = h .at;
+        placed = E .placed-stays n (h .placed);
+        home-is = q ∙ h .home-is;
+        small = rw x (h .small);
+        prefix = rw (x, E .depth-is g (h .level), E .pfx-is g (h .level)) (h .prefix);
+      }
+
+  -- no node placed, nothing noted
+  pub partition-stays : ((n : ℕ) → Placed w′ n → Placed w n) → w′ .book ≡ w .book → Partition w → Partition w′
+  partition-stays was b Q =
+      record {
+        noted = λ n p. rw b (Q .noted n (was n p));
+        noted-placed = λ n i. E .placed-stays n (Q .noted-placed n (rw b at i));
+        noted-once = rw b (Q .noted-once);
+        one-node = λ m n p q e. Q .one-node m n (was m p) (was n q) (sym (E .pixel-is m (was m p)) ∙ e ∙ E .pixel-is n (was n q));
+      }
 
   pub closed-stays : {g e : ℕ} → w .tree .into g e ≢ 0 → w′ .tree .into g e ≢ 0
   closed-stays {g} {e} z q = z (sym (E .into-is g e z) ∙ q)

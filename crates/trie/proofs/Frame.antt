@@ -11,7 +11,7 @@ use Rattle.trie.proofs.Update.{Cell, ent, nxt, updC, updC-same, updC-ot
 use Rattle.trie.proofs.Lists.{_∈_, NoDup}
 use Rattle.trie.proofs.Chain.{levelRef, nodeRef, nxt-inj, ent-inj, ent-nxt, endCell, EndOf, first, after, end-of, end-at, links-frame, links-end, links-snoc, links-init}
 use Rattle.trie.proofs.Tree.{Tree, Published}
-use Rattle.trie.proofs.World.{World, lastCell, SlotAt, Structure}
+use Rattle.trie.proofs.World.{World, lastCell, RefInside, SlotAt, SlotOk, Structure}
 
 -- a node stands in one chain
 pub one-slot : {δ : Dims} {w : World δ} (S : Structure w) {m g e h d : ℕ} → m ∈ w .chain g e → m ∈ w .chain h d → (g ≡ h) × (e ≡ d)
@@ -55,6 +55,13 @@ slot-frame f f′ ns g e q h k m s =
       if-closed = λ z. rw (q, l .1) (m _ _ (s .if-closed (λ y. z (q ∙ y))));
       direct = λ t z c p. s .direct t (λ y. z (q ∙ y)) c (sym h ∙ p) ∙ sym q;
     }
+
+-- a chain that is not the one whose end cell was written
+pub slot-other : {δ : Dims} {w : World δ} (S : Structure w) (h d v : ℕ) {T′ : Tree δ} {R′ : ℕ → ℕ → Type 0} (g e : ℕ) → ¬ ((g ≡ h) × (e ≡ d)) → T′ .into g e ≡ w .tree .into g e → ((c r : ℕ) → RefInside w c r → R′ c r) → SlotOk w g e → SlotAt T′ R′ (updC (w .cell) (lastCell w h d) v) (w .chain g e) g e
+slot-other {δ} {w} S h d v g e n q m s =
+    let f = w .cell in
+    let x = lastCell w h d in
+    slot-frame f (updC f x v) (w .chain g e) g e q (updC-other f x v (ent g e) (entry-away w n)) (λ k i. updC-other f x v (nxt k) (node-away w (λ j. n (one-slot S i j)))) m s
 
 -- the end cell of a chain of a published level is no word of a held node or level
 pub held-away : {δ : Dims} {w : World δ} (S : Structure w) {m : ℕ} (h d : ℕ) → w .nodeOwner m ≢ 0 → nxt m ≢ lastCell w h d

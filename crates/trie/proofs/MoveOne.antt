@@ -14,8 +14,8 @@ use Rattle.trie.proofs.Chain.{levelRef, nodeRef}
 use Rattle.trie.proofs.Tree.{Published, Inside}
 use Rattle.trie.proofs.World.{World, Placed, lastCell, NodeInside, RefInside, to-level, to-node, Homed, SlotAt, SlotOk, Structure, Partition}
 use Rattle.trie.proofs.Read.{inside-child}
-use Rattle.trie.proofs.Evolve.{Grows, Spares, Changed, same, longer, shorter}
-use Rattle.trie.proofs.Frame.{one-slot, ends-apart, entry-away, node-away, held-away, level-away, slot-frame, slot-grow, slot-shrink}
+use Rattle.trie.proofs.Evolve.{Grows, Spares, Changed, same, longer, shorter, none-noted, grows-tree, ref-stays, homed-stays}
+use Rattle.trie.proofs.Frame.{one-slot, ends-apart, entry-away, node-away, held-away, level-away, slot-other, slot-grow, slot-shrink}
 
 -- node n leaves the chain of (H, e), of which `pre` stays, for the end of that of (T, d)
 abbrev pub moveOne : {δ : Dims} → World δ → ℕ → ℕ → List ℕ → ℕ → ℕ → ℕ → World δ
@@ -71,6 +71,25 @@ module _ {δ : Dims} {w : World δ} (S : Structure w) {H e : ℕ} {pre : List �
   pub elsewhere : (g f : ℕ) → ¬ ((g ≡ H) × (f ≡ e)) → ¬ ((g ≡ T) × (f ≡ d)) → after .chain g f ≡ w .chain g f
   elsewhere g f p q = grown-other (shrunk (w .chain) H e pre) T d n g f q ∙ shrunk-other (w .chain) H e n pre (k .last) (S .once) alone g f p
 
+  inside-stays : {c m : ℕ} → NodeInside w c m → NodeInside after c m
+  inside-stays {c} {m} i = record { placed = i .placed; inside = by (ℕ-discrete m n) }
+    where
+      by : Dec (m ≡ n) → Inside (w .tree) c (upd (w .home) n T m)
+      by (yes q) = let j : Inside (w .tree) c H = rw (q, S .homed n H e there .home-is) at (i .inside) in rw (q, upd-same (w .home) n T) (inside-child (S .tree-ok) (k .closed) j (k .inside))
+      by (no q) = rw (upd-other (w .home) n T m q) (i .inside)
+
+  went : NodeInside after (w .tree .into H e) n
+  went = record { placed = S .homed n H e there .placed; inside = rw (upd-same (w .home) n T) (k .inside) }
+
+  pub move-grows : Grows w after
+  move-grows = grows-tree refl (λ m p. refl) (λ c m i. inside-stays i) (λ g y. by g y (same-entry? g y T d) (same-entry? g y H e)) (none-noted (w .book))
+    where
+      by : (g y : ℕ) → Dec ((g ≡ T) × (y ≡ d)) → Dec ((g ≡ H) × (y ≡ e)) → Changed w after g y
+      by g y (yes q) p = longer (n ∷ []) (rw (q .0, q .1) (k .idle)) (rw (q .0) (k .level)) (rw (q .0, q .1) at-target)
+      by g y (no q) (yes p) =
+          shorter (n ∷ []) (rw (p .0, p .1) (k .closed)) (rw (p .0, p .1, at-source) (k .last)) (λ m i. rw (p .0, p .1, List·Memᴰ·eq-of-singleton i) went)
+      by g y (no q) (no p) = same (elsewhere g y p q)
+
   homed′ : (m g f : ℕ) → m ∈ after .chain g f → Homed after m g f
   homed′ m g f i = by (grown-came (shrunk (w .chain) H e pre) T d n i)
     where
@@ -86,17 +105,7 @@ module _ {δ : Dims} {w : World δ} (S : Structure w) {H e : ℕ} {pre : List �
           }
 
       by : (m ∈ shrunk (w .chain) H e pre g f) ⊎ ((m ≡ n) × (g ≡ T) × (f ≡ d)) → Homed after m g f
-      by (inl j) =
-          let (i, q) = shrunk-came (w .chain) H e n pre (k .last) (S .once) alone j in
-          let h = S .homed m g f i in
-          record {
-            level = h .level;
-            at = h .at;
-            placed = h .placed;
-            home-is = upd-other (w .home) n T m q ∙ h .home-is;
-            small = h .small;
-            prefix = h .prefix;
-          }
+      by (inl j) = let (i, q) = shrunk-came (w .chain) H e n pre (k .last) (S .once) alone j in homed-stays move-grows (upd-other (w .home) n T m q) (S .homed m g f i)
       by (inr x) = rw (x .0, x .1, x .2) new
 
   in-chain′ : (m : ℕ) → Placed w m → (g : ℕ) × (f : ℕ) × (m ∈ after .chain g f)
@@ -106,27 +115,9 @@ module _ {δ : Dims} {w : World δ} (S : Structure w) {H e : ℕ} {pre : List �
       by (yes q) = (T, d, rw q (grown-new (shrunk (w .chain) H e pre) T d n))
       by (no q) = let (g, f, i) = S .in-chain m p in (g, f, grown-stays (shrunk (w .chain) H e pre) T d n (shrunk-stays (w .chain) H e n pre (k .last) (S .once) alone i q))
 
-  pub inside-stays : {c m : ℕ} → NodeInside w c m → NodeInside after c m
-  inside-stays {c} {m} i = record { placed = i .placed; inside = by (ℕ-discrete m n) }
-    where
-      by : Dec (m ≡ n) → Inside (w .tree) c (upd (w .home) n T m)
-      by (yes q) = let j : Inside (w .tree) c H = rw (q, S .homed n H e there .home-is) at (i .inside) in rw (q, upd-same (w .home) n T) (inside-child (S .tree-ok) (k .closed) j (k .inside))
-      by (no q) = rw (upd-other (w .home) n T m q) (i .inside)
-
-  ref-stays : (c r : ℕ) → RefInside w c r → RefInside after c r
-  ref-stays c r (to-level t p i) = to-level t p i
-  ref-stays c r (to-node m p i) = to-node m p (inside-stays i)
-
-  went : NodeInside after (w .tree .into H e) n
-  went = record { placed = S .homed n H e there .placed; inside = rw (upd-same (w .home) n T) (k .inside) }
-
   -- every chain but the target keeps its words
   kept : (g f : ℕ) → ¬ ((g ≡ T) × (f ≡ d)) → SlotOk w g f → SlotAt (w .tree) (RefInside after) (after .cell) (w .chain g f) g f
-  kept g f q s =
-      slot-frame (w .cell) (after .cell) (w .chain g f) g f refl
-      (updC-other (w .cell) (lastCell w T d) (nodeRef n) (ent g f) (entry-away w q))
-      (λ m i. updC-other (w .cell) (lastCell w T d) (nodeRef n) (nxt m) (node-away w (λ j. q (one-slot S i j))))
-      ref-stays s
+  kept g f q s = slot-other S T d (nodeRef n) g f q refl (ref-stays move-grows) s
 
   slot′ : (g f : ℕ) → SlotOk w g f → Dec ((g ≡ T) × (f ≡ d)) → Dec ((g ≡ H) × (f ≡ e)) → SlotOk after g f
   slot′ g f s (yes q) p =
@@ -144,30 +135,6 @@ module _ {δ : Dims} {w : World δ} (S : Structure w) {H e : ℕ} {pre : List �
         once = grown-once (shrunk (w .chain) H e pre) T d n (λ i. apart (alone T d (rw target at i))) (shrunk-once (w .chain) H e n pre (k .last) (S .once) alone);
         slot = λ g f p l. slot′ g f (S .slot g f p l) (same-entry? g f T d) (same-entry? g f H e);
       }
-
-  pub move-partition : Partition w → Partition after
-  move-partition Q = record { noted = Q .noted; noted-placed = Q .noted-placed; noted-once = Q .noted-once; one-node = Q .one-node }
-
-  pub move-grows : Grows w after
-  move-grows =
-      record {
-        published = λ g p. p;
-        prev-is = λ g p. refl;
-        depth-is = λ g p. refl;
-        pfx-is = λ g p. refl;
-        into-is = λ g d p. refl;
-        pixel-is = λ m p. refl;
-        placed-stays = λ m p. p;
-        inside-stays = λ c m i. inside-stays i;
-        changed = λ g y. by g y (same-entry? g y T d) (same-entry? g y H e);
-        book-grows = ([], sym (append-nil (w .book)));
-      }
-    where
-      by : (g y : ℕ) → Dec ((g ≡ T) × (y ≡ d)) → Dec ((g ≡ H) × (y ≡ e)) → Changed w after g y
-      by g y (yes q) p = longer (n ∷ []) (rw (q .0, q .1) (k .idle)) (rw (q .0) (k .level)) (rw (q .0, q .1) at-target)
-      by g y (no q) (yes p) =
-          shorter (n ∷ []) (rw (p .0, p .1) (k .closed)) (rw (p .0, p .1, at-source) (k .last)) (λ m i. rw (p .0, p .1, List·Memᴰ·eq-of-singleton i) went)
-      by g y (no q) (no p) = same (elsewhere g y p q)
 
   -- another worker v, who does not move this chain, sees one chain shorter and one longer
   pub move-spares : (v : ℕ) → v ≢ 0 → w .mover (w .tree .into H e) ≢ v → Spares v w after

@@ -13,8 +13,8 @@ use Rattle.trie.proofs.Grow.{grown, grown-at, grown-other, grown-came, 
 use Rattle.trie.proofs.Chain.{levelRef, nodeRef}
 use Rattle.trie.proofs.Tree.{Published}
 use Rattle.trie.proofs.World.{World, Placed, lastCell, NodeInside, RefInside, to-level, to-node, Homed, SlotOk, Structure, Partition}
-use Rattle.trie.proofs.Evolve.{Grows, Spares, Changed, same, longer}
-use Rattle.trie.proofs.Frame.{one-slot, ends-apart, entry-away, node-away, held-away, level-away, slot-frame, slot-grow}
+use Rattle.trie.proofs.Evolve.{Grows, Spares, Changed, same, longer, grows-tree, ref-stays, homed-stays}
+use Rattle.trie.proofs.Frame.{one-slot, ends-apart, entry-away, node-away, held-away, level-away, slot-other, slot-grow}
 
 -- node n goes to the end of the chain of (H, e)
 abbrev pub place : {δ : Dims} → World δ → ℕ → ℕ → ℕ → World δ
@@ -46,15 +46,18 @@ module _ {δ : Dims} {w : World δ} (S : Structure w) {H e n : ℕ} (k : CanPlac
   not-new : {m : ℕ} → Placed w m → m ≢ n
   not-new p q = k .held (rw q at p)
 
-  pub placed-stays : {m : ℕ} → Placed w m → Placed (place w H e n) m
+  placed-stays : {m : ℕ} → Placed w m → Placed (place w H e n) m
   placed-stays {m} p = upd-other (w .nodeOwner) n 0 m (not-new p) ∙ p
 
-  pub inside-stays : {c m : ℕ} → NodeInside w c m → NodeInside (place w H e n) c m
-  inside-stays {c} {m} i = record { placed = placed-stays (i .placed); inside = rw (upd-other (w .home) n H m (not-new (i .placed))) (i .inside) }
+  home-stays : {m : ℕ} → Placed w m → place w H e n .home m ≡ w .home m
+  home-stays {m} p = upd-other (w .home) n H m (not-new p)
 
-  pub ref-stays : (c r : ℕ) → RefInside w c r → RefInside (place w H e n) c r
-  ref-stays c r (to-level t p i) = to-level t p i
-  ref-stays c r (to-node m p i) = to-node m p (inside-stays i)
+  pub place-grows : Grows w (place w H e n)
+  place-grows = grows-tree refl (λ m p. refl) (λ c m i. record { placed = placed-stays (i .placed); inside = rw (home-stays (i .placed)) (i .inside) }) (λ g d. by g d (same-entry? g d H e)) (n ∷ [], refl)
+    where
+      by : (g d : ℕ) → Dec ((g ≡ H) × (d ≡ e)) → Changed w (place w H e n) g d
+      by g d (yes q) = longer (n ∷ []) (rw (q .0, q .1) (k .idle)) (rw (q .0) (k .level)) (rw (q .0, q .1) (grown-at (w .chain) H e n))
+      by g d (no q) = same (grown-other (w .chain) H e n g d q)
 
   not-there : (g d : ℕ) → ¬ (n ∈ w .chain g d)
   not-there g d i = k .held (S .homed n g d i .placed)
@@ -63,16 +66,7 @@ module _ {δ : Dims} {w : World δ} (S : Structure w) {H e n : ℕ} (k : CanPlac
   homed′ m g d i = by (grown-came (w .chain) H e n i)
     where
       by : (m ∈ w .chain g d) ⊎ ((m ≡ n) × (g ≡ H) × (d ≡ e)) → Homed (place w H e n) m g d
-      by (inl j) =
-          let h = S .homed m g d j in
-          record {
-            level = h .level;
-            at = h .at;
-            placed = placed-stays (h .placed);
-            home-is = upd-other (w .home) n H m (not-new (h .placed)) ∙ h .home-is;
-            small = h .small;
-            prefix = h .prefix;
-          }
+      by (inl j) = let h = S .homed m g d j in homed-stays place-grows (home-stays (h .placed)) h
       by (inr x) = rw (x .0, x .1, x .2) homed-new
         where
           homed-new : Homed (place w H e n) n H e
@@ -96,15 +90,6 @@ module _ {δ : Dims} {w : World δ} (S : Structure w) {H e n : ℕ} (k : CanPlac
   slot-here : SlotOk (place w H e n) H e
   slot-here = rw (grown-at (w .chain) H e n) (slot-grow (w .cell) (w .chain H e) H e n (S .once H e) (k .idle) (k .room) (held-away S H e (k .held)) (k .aims) (S .slot H e (k .level) (k .at)))
 
-  slot-there : (g d : ℕ) → ¬ ((g ≡ H) × (d ≡ e)) → SlotOk w g d → SlotOk (place w H e n) g d
-  slot-there g d q s =
-      let f = w .cell in
-      let x = lastCell w H e in
-      rw (grown-other (w .chain) H e n g d q) (slot-frame f (updC f x (nodeRef n)) (w .chain g d) g d refl
-      (updC-other f x (nodeRef n) (ent g d) (entry-away w q))
-      (λ m i. updC-other f x (nodeRef n) (nxt m) (node-away w (λ j. q (one-slot S i j))))
-      ref-stays s)
-
   pub place-structure : Structure (place w H e n)
   place-structure =
       record {
@@ -117,7 +102,7 @@ module _ {δ : Dims} {w : World δ} (S : Structure w) {H e n : ℕ} (k : CanPlac
     where
       by : (g d : ℕ) → SlotOk w g d → Dec ((g ≡ H) × (d ≡ e)) → SlotOk (place w H e n) g d
       by g d s (yes q) = rw (q .0, q .1) slot-here
-      by g d s (no q) = slot-there g d q s
+      by g d s (no q) = rw (grown-other (w .chain) H e n g d q) (slot-other S H e (nodeRef n) g d q refl (ref-stays place-grows) s)
 
   pub place-partition : Partition w → Partition (place w H e n)
   place-partition Q =
@@ -144,25 +129,6 @@ module _ {δ : Dims} {w : World δ} (S : Structure w) {H e n : ℕ} (k : CanPlac
       one-node a b p q (yes x) (no y) z = absurd (k .new b (was y q) (sym z ∙ ap (w .pixel) x))
       one-node a b p q (no x) (yes y) z = absurd (k .new a (was x p) (z ∙ ap (w .pixel) y))
       one-node a b p q (no x) (no y) z = Q .one-node a b (was x p) (was y q) z
-
-  pub place-grows : Grows w (place w H e n)
-  place-grows =
-      record {
-        published = λ g p. p;
-        prev-is = λ g p. refl;
-        depth-is = λ g p. refl;
-        pfx-is = λ g p. refl;
-        into-is = λ g d p. refl;
-        pixel-is = λ m p. refl;
-        placed-stays = λ m p. placed-stays p;
-        inside-stays = λ c m i. inside-stays i;
-        changed = λ g d. by g d (same-entry? g d H e);
-        book-grows = (n ∷ [], refl);
-      }
-    where
-      by : (g d : ℕ) → Dec ((g ≡ H) × (d ≡ e)) → Changed w (place w H e n) g d
-      by g d (yes q) = longer (n ∷ []) (rw (q .0, q .1) (k .idle)) (rw (q .0) (k .level)) (rw (q .0, q .1) (grown-at (w .chain) H e n))
-      by g d (no q) = same (grown-other (w .chain) H e n g d q)
 
   -- another worker v sees a longer chain at most
   pub place-spares : (v : ℕ) → v ≢ 0 → w .nodeOwner n ≢ v → Spares v w (place w H e n)

@@ -10,8 +10,8 @@ use Rattle.trie.proofs.Lists.{_∈_}
 use Rattle.trie.proofs.Chain.{levelRef, ent-nxt, links-end}
 use Rattle.trie.proofs.Tree.{Published}
 use Rattle.trie.proofs.World.{World, lastCell, NodeInside, RefInside, to-level, to-node, Homed, SlotOk, Structure, Partition}
-use Rattle.trie.proofs.Evolve.{Grows, Spares, same}
-use Rattle.trie.proofs.Frame.{one-slot, ends-apart, entry-away, node-away, held-away, level-away, slot-frame}
+use Rattle.trie.proofs.Evolve.{Grows, Spares, same, none-noted, grows-tree, ref-stays, homed-stays}
+use Rattle.trie.proofs.Frame.{one-slot, ends-apart, entry-away, node-away, held-away, level-away, slot-other}
 
 -- the end of the chain of (H, e) becomes r; `mover` after it is mv
 abbrev pub redirect : {δ : Dims} → World δ → ℕ → ℕ → ℕ → (ℕ → ℕ) → World δ
@@ -39,12 +39,8 @@ module _ {δ : Dims} {w : World δ} (S : Structure w) {H e r : ℕ} (k : CanRedi
   abbrev after : World δ
   after = redirect w H e r mv
 
-  inside-stays : {c m : ℕ} → NodeInside w c m → NodeInside after c m
-  inside-stays i = record { placed = i .placed; inside = i .inside }
-
-  ref-stays : (c r : ℕ) → RefInside w c r → RefInside after c r
-  ref-stays c r (to-level t p i) = to-level t p i
-  ref-stays c r (to-node m p i) = to-node m p (inside-stays i)
+  pub redirect-grows : Grows w after
+  redirect-grows = grows-tree refl (λ m p. refl) (λ c m i. record { placed = i .placed; inside = i .inside }) (λ g d. same refl) (none-noted (w .book))
 
   slot-here : SlotOk after H e
   slot-here =
@@ -56,25 +52,15 @@ module _ {δ : Dims} {w : World δ} (S : Structure w) {H e r : ℕ} (k : CanRedi
         links = links-end f (ent H e) (w .chain H e) r (λ m i. ent-nxt) (S .once H e) (s .links);
         short = s .short;
         if-open = λ z. absurd (k .closed z);
-        if-closed = λ z. rw at (ref-stays _ _ (k .inside));
+        if-closed = λ z. rw at (ref-stays redirect-grows _ _ (k .inside));
         direct = λ t z c q. let y : x ≡ ent H e = rw c refl in k .straight t c (sym at ∙ ap (after .cell) y ∙ q);
       }
-
-  slot-other : (g d : ℕ) → ¬ ((g ≡ H) × (d ≡ e)) → SlotOk w g d → SlotOk after g d
-  slot-other g d q s =
-      slot-frame (w .cell) (after .cell) (w .chain g d) g d refl
-      (updC-other (w .cell) (lastCell w H e) r (ent g d) (entry-away w q))
-      (λ m i. updC-other (w .cell) (lastCell w H e) r (nxt m) (node-away w (λ j. q (one-slot S i j))))
-      ref-stays s
-
-  homed′ : (m g d : ℕ) → m ∈ w .chain g d → Homed after m g d
-  homed′ m g d i = let h = S .homed m g d i in record { level = h .level; at = h .at; placed = h .placed; home-is = h .home-is; small = h .small; prefix = h .prefix }
 
   pub redirect-structure : Structure after
   redirect-structure =
       record {
         tree-ok = S .tree-ok;
-        homed = homed′;
+        homed = λ m g d i. homed-stays redirect-grows refl (S .homed m g d i);
         in-chain = S .in-chain;
         once = S .once;
         slot = λ g d p l. by g d (S .slot g d p l) (same-entry? g d H e);
@@ -82,25 +68,7 @@ module _ {δ : Dims} {w : World δ} (S : Structure w) {H e r : ℕ} (k : CanRedi
     where
       by : (g d : ℕ) → SlotOk w g d → Dec ((g ≡ H) × (d ≡ e)) → SlotOk after g d
       by g d s (yes q) = rw (q .0, q .1) slot-here
-      by g d s (no q) = slot-other g d q s
-
-  pub redirect-partition : Partition w → Partition after
-  redirect-partition Q = record { noted = Q .noted; noted-placed = Q .noted-placed; noted-once = Q .noted-once; one-node = Q .one-node }
-
-  pub redirect-grows : Grows w after
-  redirect-grows =
-      record {
-        published = λ g p. p;
-        prev-is = λ g p. refl;
-        depth-is = λ g p. refl;
-        pfx-is = λ g p. refl;
-        into-is = λ g d p. refl;
-        pixel-is = λ m p. refl;
-        placed-stays = λ m p. p;
-        inside-stays = λ c m i. inside-stays i;
-        changed = λ g d. same refl;
-        book-grows = ([], sym (append-nil (w .book)));
-      }
+      by g d s (no q) = slot-other S H e r g d q refl (ref-stays redirect-grows) s
 
   -- a worker v that does not move this chain
   pub redirect-spares : (v : ℕ) → v ≢ 0 → w .mover (w .tree .into H e) ≢ v → ((c : ℕ) → w .mover c ≡ v → mv c ≡ v) → Spares v w after

@@ -11,7 +11,7 @@ use Rattle.trie.proofs.Lists.{_∈_}
 use Rattle.trie.proofs.Chain.{levelRef, links-frame}
 use Rattle.trie.proofs.Tree.{Published, Child, TreeOk, Inside, inside-mono}
 use Rattle.trie.proofs.World.{World, NodeInside, RefInside, to-level, to-node, Homed, Structure, Partition}
-use Rattle.trie.proofs.Evolve.{Grows, Spares, same}
+use Rattle.trie.proofs.Evolve.{Grows, Spares, same, none-noted, ref-stays, homed-stays}
 use Rattle.trie.proofs.Frame.{slot-frame}
 
 -- level G under H, at depth d, with prefix p and empty entries, held by v
@@ -87,38 +87,6 @@ module _ {δ : Dims} {w : World δ} (S : Structure w) {G : ℕ} (held : w .tree 
             record { from = published g (c .from); at = c .at; to = published (w .tree .into g e) (c .to); back = prev-is (w .tree .into g e) (c .to) ∙ c .back; prefix = rw (pfx-is (w .tree .into g e) (c .to), pfx-is g (c .from)) (c .prefix) };
       }
 
-  level-stays : {c t : ℕ} → Inside (w .tree) c t → Inside (taken .tree) c t
-  level-stays i = inside-mono published prev-is i
-
-  inside-stays : {c m : ℕ} → NodeInside w c m → NodeInside taken c m
-  inside-stays i = record { placed = i .placed; inside = level-stays (i .inside) }
-
-  ref-stays : (c r : ℕ) → RefInside w c r → RefInside taken c r
-  ref-stays c r (to-level t e i) = to-level t e (level-stays i)
-  ref-stays c r (to-node m e i) = to-node m e (inside-stays i)
-
-  homed′ : (m g e : ℕ) → m ∈ w .chain g e → Homed taken m g e
-  homed′ m g e i =
-      let h = S .homed m g e i in
-      record { level = published g (h .level); at = h .at; placed = h .placed; home-is = h .home-is; small = h .small; prefix = rw (depth-is g (h .level), pfx-is g (h .level)) (h .prefix) }
-
-  pub level-structure : Structure taken
-  level-structure =
-      record {
-        tree-ok = tree-ok′;
-        homed = homed′;
-        in-chain = S .in-chain;
-        once = S .once;
-        slot = λ g e q l.
-            slot-frame (w .cell) (taken .cell) (w .chain g e) g e refl
-            (updL-other (w .cell) G (levelRef G) g e (not-G (was q)))
-            (λ m i. updL-next (w .cell) G (levelRef G) m)
-            ref-stays (S .slot g e (was q) l);
-      }
-
-  pub level-partition : Partition w → Partition taken
-  level-partition Q = record { noted = Q .noted; noted-placed = Q .noted-placed; noted-once = Q .noted-once; one-node = Q .one-node }
-
   pub level-grows : Grows w taken
   level-grows =
       record {
@@ -129,9 +97,23 @@ module _ {δ : Dims} {w : World δ} (S : Structure w) {G : ℕ} (held : w .tree 
         into-is = λ g e z. refl;
         pixel-is = λ m q. refl;
         placed-stays = λ m q. q;
-        inside-stays = λ c m i. inside-stays i;
+        inside-stays = λ c m i. record { placed = i .placed; inside = inside-mono published prev-is (i .inside) };
         changed = λ g e. same refl;
-        book-grows = ([], sym (append-nil (w .book)));
+        book-grows = none-noted (w .book);
+      }
+
+  pub level-structure : Structure taken
+  level-structure =
+      record {
+        tree-ok = tree-ok′;
+        homed = λ m g e i. homed-stays level-grows refl (S .homed m g e i);
+        in-chain = S .in-chain;
+        once = S .once;
+        slot = λ g e q l.
+            slot-frame (w .cell) (taken .cell) (w .chain g e) g e refl
+            (updL-other (w .cell) G (levelRef G) g e (not-G (was q)))
+            (λ m i. updL-next (w .cell) G (levelRef G) m)
+            (ref-stays level-grows) (S .slot g e (was q) l);
       }
 
   -- a worker u that did not hold G

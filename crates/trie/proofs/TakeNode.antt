@@ -10,7 +10,7 @@ use Rattle.trie.proofs.Update.{Cell, nxt, upd, upd-same, upd-other, upd
 use Rattle.trie.proofs.Lists.{_∈_}
 use Rattle.trie.proofs.Chain.{nxt-inj, ent-nxt}
 use Rattle.trie.proofs.World.{World, Placed, NodeInside, RefInside, to-level, to-node, Homed, Structure, Partition}
-use Rattle.trie.proofs.Evolve.{Grows, Spares, same}
+use Rattle.trie.proofs.Evolve.{Grows, Spares, same, none-noted, grows-tree, ref-stays, homed-stays, partition-stays}
 use Rattle.trie.proofs.Frame.{held-away, slot-frame}
 
 -- node n with pixel K and next r, held by v
@@ -44,21 +44,8 @@ module _ {δ : Dims} {w : World δ} (S : Structure w) {n : ℕ} (held : w .nodeO
       by (yes q) = absurd (holds (sym (upd-same (w .nodeOwner) n v) ∙ rw q at p))
       by (no q) = sym (upd-other (w .nodeOwner) n v m q) ∙ p
 
-  pixel-stays : {m : ℕ} → Placed w m → taken .pixel m ≡ w .pixel m
-  pixel-stays {m} p = upd-other (w .pixel) n K m (not-n p)
-
-  inside-stays : {c m : ℕ} → NodeInside w c m → NodeInside taken c m
-  inside-stays i = record { placed = placed-stays (i .placed); inside = i .inside }
-
-  ref-stays : (c r : ℕ) → RefInside w c r → RefInside taken c r
-  ref-stays c r (to-level t p i) = to-level t p i
-  ref-stays c r (to-node m p i) = to-node m p (inside-stays i)
-
-  homed′ : (m g d : ℕ) → m ∈ w .chain g d → Homed taken m g d
-  homed′ m g d i =
-      let h = S .homed m g d i in
-      let e = pixel-stays (h .placed) in
-      record { level = h .level; at = h .at; placed = placed-stays (h .placed); home-is = h .home-is; small = rw e (h .small); prefix = rw e (h .prefix) }
+  pub take-grows : Grows w taken
+  take-grows = grows-tree refl (λ m p. upd-other (w .pixel) n K m (not-n p)) (λ c m i. record { placed = placed-stays (i .placed); inside = i .inside }) (λ g d. same refl) (none-noted (w .book))
 
   cell-stays : {x : Cell} → x ≢ nxt n → taken .cell x ≡ w .cell x
   cell-stays {x} q = updC-other (w .cell) (nxt n) r x q
@@ -67,39 +54,18 @@ module _ {δ : Dims} {w : World δ} (S : Structure w) {n : ℕ} (held : w .nodeO
   take-structure =
       record {
         tree-ok = S .tree-ok;
-        homed = homed′;
+        homed = λ m g d i. homed-stays take-grows refl (S .homed m g d i);
         in-chain = λ m p. S .in-chain m (was p);
         once = S .once;
         slot = λ g d p l.
             slot-frame (w .cell) (taken .cell) (w .chain g d) g d refl
             (cell-stays ent-nxt)
             (λ m i. cell-stays (λ q. not-n (S .homed m g d i .placed) (nxt-inj q)))
-            ref-stays (S .slot g d p l);
+            (ref-stays take-grows) (S .slot g d p l);
       }
 
   pub take-partition : Partition w → Partition taken
-  take-partition Q =
-      record {
-        noted = λ m p. Q .noted m (was p);
-        noted-placed = λ m i. placed-stays (Q .noted-placed m i);
-        noted-once = Q .noted-once;
-        one-node = λ a b p q e. Q .one-node a b (was p) (was q) (sym (pixel-stays (was p)) ∙ e ∙ pixel-stays (was q));
-      }
-
-  pub take-grows : Grows w taken
-  take-grows =
-      record {
-        published = λ g p. p;
-        prev-is = λ g p. refl;
-        depth-is = λ g p. refl;
-        pfx-is = λ g p. refl;
-        into-is = λ g d p. refl;
-        pixel-is = λ m p. pixel-stays p;
-        placed-stays = λ m p. placed-stays p;
-        inside-stays = λ c m i. inside-stays i;
-        changed = λ g d. same refl;
-        book-grows = ([], sym (append-nil (w .book)));
-      }
+  take-partition Q = partition-stays take-grows (λ m p. was p) refl Q
 
   -- a worker u that did not hold n
   pub take-spares : (u : ℕ) → w .nodeOwner n ≢ u → Spares u w taken

@@ -1,6 +1,6 @@
 -- The turns that write, each as a step from the whole invariant to the whole invariant. The turns that only read, and failed exchanges, are `stay-step`.
 -- Relies on Digits, Update, Chain, World, Evolve, Stand, Search, Move, MoveTurns, MoveEnd, Place, TakeNode, TakeLevel, MoveOne, Redirect, Close and Whole.
-use mathlib.Core.Path.{_≡_, sym, ap, _∙_}
+use mathlib.Core.Path.{_≡_, refl, sym, ap, _∙_}
 use mathlib.Core.Logic.{_≢_, _⊎_, inl, inr, _↔_, Iff·rfl, Iff·trans}
 use mathlib.Core.List.{List, [], _∷_, _++_}
 use Prim.Native.Nat.{ℕ, suc, _+_, _*_, _<_}
@@ -10,7 +10,7 @@ use Rattle.trie.proofs.Digits.{Dims, digit}
 use Rattle.trie.proofs.Update.{upd, upd-same, upd-other}
 use Rattle.trie.proofs.Chain.{levelRef}
 use Rattle.trie.proofs.World.{World, Structure, Partition}
-use Rattle.trie.proofs.Evolve.{Grows, Spares}
+use Rattle.trie.proofs.Evolve.{Grows, Spares, partition-stays}
 use Rattle.trie.proofs.Stand.{Pos, at-entry, passed}
 use Rattle.trie.proofs.Search.{peek, fetch, put, level, shut, put-done, shut-done, fetch-put, level-shut, word}
 use Rattle.trie.proofs.Move.{Frame, edge, FrameOk, Setting, gather, aim, set, aims, sets, set-shuts}
@@ -18,10 +18,10 @@ use Rattle.trie.proofs.MoveTurns.{shut-moves, can-aim, aim-set, set-shu
 use Rattle.trie.proofs.MoveEnd.{finish-can}
 use Rattle.trie.proofs.Place.{place, place-structure, place-partition, place-grows, place-spares}
 use Rattle.trie.proofs.TakeNode.{takeNode, take-structure, take-partition, take-grows, take-spares}
-use Rattle.trie.proofs.TakeLevel.{takeLevel, level-structure, level-partition, level-grows, level-spares}
-use Rattle.trie.proofs.MoveOne.{moveOne, move-structure, move-partition, move-grows, move-spares}
-use Rattle.trie.proofs.Redirect.{redirect, redirect-structure, redirect-partition, redirect-grows, redirect-spares}
-use Rattle.trie.proofs.Close.{close, CanClose, close-structure, close-partition, close-grows, close-spares}
+use Rattle.trie.proofs.TakeLevel.{takeLevel, level-structure, level-grows, level-spares}
+use Rattle.trie.proofs.MoveOne.{moveOne, move-structure, move-grows, move-spares}
+use Rattle.trie.proofs.Redirect.{redirect, redirect-structure, redirect-grows, redirect-spares}
+use Rattle.trie.proofs.Close.{close, CanClose, close-structure, close-grows, close-spares}
 use Rattle.trie.proofs.Whole.{Act, idle, searching, moving, Worker, ActOk, is-idle, is-searching, is-moving, owner, Inv, inv-step}
 
 -- an owner function changed at one number: who owned it, and who owns it now, are the only ones to notice
@@ -105,7 +105,8 @@ module _ {δ : Dims} {w : World δ} {workers : ℕ → Worker} (I : Inv w worker
   level-step : (G H d p : ℕ) (now : Act) (held : w .tree .levelOwner G ≢ 0) → ((j : ℕ) → j ≢ i → w .tree .levelOwner G ≢ owner j) → (workers i .level ≡ 0) ⊎ (workers i .level ≡ suc G) → ActOk (takeLevel w G H d p (owner i)) (owner i) (workers i .key) (workers i .since) now → Inv (takeLevel w G H d p (owner i)) (upd workers i (does (withLevel (workers i) (suc G)) now))
   level-step G H d p now held others s k =
       let v : owner i ≢ 0 = omega arith in
-      inv-step I i (does (withLevel (workers i) (suc G)) now) (level-grows S held H d p (owner i) v) (level-structure S held H d p (owner i) v) (level-partition S held H d p (owner i) v Q)
+      let E = level-grows S held H d p (owner i) v in
+      inv-step I i (does (withLevel (workers i) (suc G)) now) E (level-structure S held H d p (owner i) v) (partition-stays E (λ m q. q) refl Q)
       (λ j y. (level-spares S held H d p (owner i) v (owner j) (others j y), record { same-node = λ m q. q; same-level = owned-before (w .tree .levelOwner) G (owner i) (apart y) }))
       (record { acts = k; holds-node = I .each i .holds-node; holds-level = takes (w .tree .levelOwner) G (owner i) (workers i .level) (I .each i .holds-level) s })
 
@@ -119,7 +120,8 @@ module _ {δ : Dims} {w : World δ} {workers : ℕ → Worker} (I : Inv w worker
   close-step : (H e G : ℕ) (now : Act) (can : CanClose w H e G) → workers i .level ≡ suc G → ActOk (close w H e G (owner i)) (owner i) (workers i .key) (workers i .since) now → Inv (close w H e G (owner i)) (upd workers i (does (withLevel (workers i) 0) now))
   close-step H e G now can hand k =
       let mine = I .each i .holds-level G .1 hand in
-      inv-step I i (does (withLevel (workers i) 0) now) (close-grows S can (owner i)) (close-structure S can (owner i)) (close-partition S can (owner i) Q)
+      let E = close-grows S can (owner i) in
+      inv-step I i (does (withLevel (workers i) 0) now) E (close-structure S can (owner i)) (partition-stays E (λ m p. p) refl Q)
       (λ j d. (close-spares S can (owner i) (owner j) (omega arith) (λ p. apart d (sym mine ∙ p)), record { same-node = λ m p. p; same-level = owned-before (w .tree .levelOwner) G 0 (omega arith) }))
       (record { acts = k; holds-node = I .each i .holds-node; holds-level = gives (w .tree .levelOwner) G 0 (omega arith) (workers i .level) (I .each i .holds-level) hand })
 
@@ -130,10 +132,10 @@ module _ {δ : Dims} {w : World δ} {workers : ℕ → Worker} (I : Inv w worker
   set-shut-turn {f} {fs} {N} {T} {M} {x} (is-moving small b (sets pre k n (set-shuts s c d t) a)) hand q =
       close-step T _ M _ (shut-can S (omega arith) s c d t q .0) hand (is-moving small b (set-shut-moves S Q (omega arith) (sets pre k n (set-shuts s c d t) a) q))
 
-  -- a turn of a Move that leaves owners and levels as they are
-  move-step : {w′ : World δ} (now : Act) → Grows w w′ → Structure w′ → Partition w′ → ((m v : ℕ) → (w′ .nodeOwner m ≡ v) ↔ (w .nodeOwner m ≡ v)) → ((g v : ℕ) → (w′ .tree .levelOwner g ≡ v) ↔ (w .tree .levelOwner g ≡ v)) → ((j : ℕ) → j ≢ i → Spares (owner j) w w′) → ActOk w′ (owner i) (workers i .key) (workers i .since) now → Inv w′ (upd workers i (does (workers i) now))
-  move-step {w′} now E S′ Q′ n l X k =
-      inv-step I i (does (workers i) now) E S′ Q′
+  -- a turn of a Move that leaves owners, levels and the book as they are
+  move-step : {w′ : World δ} (now : Act) → Grows w w′ → Structure w′ → w′ .book ≡ w .book → ((m v : ℕ) → (w′ .nodeOwner m ≡ v) ↔ (w .nodeOwner m ≡ v)) → ((g v : ℕ) → (w′ .tree .levelOwner g ≡ v) ↔ (w .tree .levelOwner g ≡ v)) → ((j : ℕ) → j ≢ i → Spares (owner j) w w′) → ActOk w′ (owner i) (workers i .key) (workers i .since) now → Inv w′ (upd workers i (does (workers i) now))
+  move-step {w′} now E S′ b n l X k =
+      inv-step I i (does (workers i) now) E S′ (partition-stays E (λ m p. n m 0 .0 p) b Q)
       (λ j d. (X j d, record { same-node = λ m p. n m (owner j) .0 p; same-level = λ g p. l g (owner j) .0 p }))
       (record { acts = k; holds-node = λ m. Iff·trans (n m (owner i)) (I .each i .holds-node m); holds-level = λ g. Iff·trans (l g (owner i)) (I .each i .holds-level g) })
 
@@ -145,7 +147,7 @@ module _ {δ : Dims} {w : World δ} {workers : ℕ → Worker} (I : Inv w worker
   pub aim-turn : {f : Frame} {fs : List Frame} {N T : ℕ} → Mine (moving f fs (aim N T)) → Inv (redirect w (f .home) (edge w f) (levelRef T) (w .mover)) (upd workers i (does (workers i) (moving f fs (set N (peek T at-entry)))))
   aim-turn {f} {fs} {N} {T} (is-moving small b (aims pre k n o j c)) =
       let can = can-aim S pre N k j in
-      move-step (moving f fs (set N (peek T at-entry))) (redirect-grows S can (w .mover)) (redirect-structure S can (w .mover)) (redirect-partition S can (w .mover) Q) (λ m v. Iff·rfl) (λ g v. Iff·rfl)
+      move-step (moving f fs (set N (peek T at-entry))) (redirect-grows S can (w .mover)) (redirect-structure S can (w .mover)) refl (λ m v. Iff·rfl) (λ g v. Iff·rfl)
       (λ u d. redirect-spares S can (w .mover) (owner u) (omega arith) (not-theirs k d) (λ c p. p))
       (is-moving small b (aim-set S Q (aims pre k n o j c)))
 
@@ -153,7 +155,7 @@ module _ {δ : Dims} {w : World δ} {workers : ℕ → Worker} (I : Inv w worker
   pub put-step : {f : Frame} {N T : ℕ} {x : Pos} (pre : List ℕ) (k : FrameOk w (owner i) f (pre ++ (N ∷ []))) (s : Setting w N (f .child) T x) (l : passed x < δ .limit) (q : word w (w .pixel N) T x ≡ levelRef T) (now : Act) → ActOk (moveOne w (f .home) (edge w f) pre N T (digit δ (w .pixel N) (w .tree .depth T))) (owner i) (workers i .key) (workers i .since) now → Inv (moveOne w (f .home) (edge w f) pre N T (digit δ (w .pixel N) (w .tree .depth T))) (upd workers i (does (workers i) now))
   put-step {f} {N} {T} {x} pre k s l q now o =
       let can = put-can S pre k s l q in
-      move-step now (move-grows S can) (move-structure S can) (move-partition S can Q) (λ m v. Iff·rfl) (λ g v. Iff·rfl)
+      move-step now (move-grows S can) (move-structure S can) refl (λ m v. Iff·rfl) (λ g v. Iff·rfl)
       (λ u d. move-spares S can (owner u) (omega arith) (not-theirs k d)) o
 
   -- MoveEnd: the entry leads to the child, which nobody moves to any more; the next step is the caller's
@@ -161,5 +163,5 @@ module _ {δ : Dims} {w : World δ} {workers : ℕ → Worker} (I : Inv w worker
   finish-step {f} k now o =
       let mv = upd (w .mover) (f .child) 0 in
       let can = finish-can S k in
-      move-step now (redirect-grows S can mv) (redirect-structure S can mv) (redirect-partition S can mv Q) (λ m v. Iff·rfl) (λ g v. Iff·rfl)
+      move-step now (redirect-grows S can mv) (redirect-structure S can mv) refl (λ m v. Iff·rfl) (λ g v. Iff·rfl)
       (λ u d. redirect-spares S can mv (owner u) (omega arith) (not-theirs k d) (λ c p. upd-other (w .mover) (f .child) 0 c (λ y. apart d (sym (k .mine) ∙ ap (w .mover) (sym y) ∙ p)) ∙ p)) o
