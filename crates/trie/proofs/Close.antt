@@ -2,18 +2,18 @@
 -- Relies on Digits, Update, Lists, Chain, Tree, World, Evolve and Frame.
 use mathlib.Core.Path.{_≡_, refl, sym, ap, _∙_}
 use mathlib.Core.Logic.{_≢_}
-use mathlib.Core.List.{[], append-nil}
+use mathlib.Core.List.{[]}
 use Prim.Native.Nat.{ℕ, suc, _+_, _*_, _<_}
 use native.Mathlib.Decide.{ℕ-discrete}
 use native.Mathlib.Omega.{arith}
 use Rattle.trie.proofs.Digits.{Dims}
 use Rattle.trie.proofs.Update.{ent, nxt, upd, upd-same, upd-other, updC, updC-same, updC-other, upd₂, upd₂-same, upd₂-other, same-entry?}
-use Rattle.trie.proofs.Lists.{_∈_, no-members}
+use Rattle.trie.proofs.Lists.{no-members}
 use Rattle.trie.proofs.Chain.{levelRef, ent-nxt, links-end}
-use Rattle.trie.proofs.Tree.{Published, Child, Closed, TreeOk, Inside, here, inside-mono}
-use Rattle.trie.proofs.World.{World, lastCell, NodeInside, RefInside, to-level, to-node, Homed, SlotOk, Structure, Partition}
+use Rattle.trie.proofs.Tree.{Published, Child, Closed, TreeOk, here, inside-mono}
+use Rattle.trie.proofs.World.{World, lastCell, to-level, SlotOk, Structure}
 use Rattle.trie.proofs.Evolve.{Grows, Spares, same, none-noted, ref-stays, homed-stays}
-use Rattle.trie.proofs.Frame.{one-slot, ends-apart, entry-away, node-away, held-away, level-away, slot-other}
+use Rattle.trie.proofs.Frame.{ends-apart, entry-away, held-away, level-away, slot-other}
 
 -- the chain of (H, e) closed by level G, which worker v (its number + 2) will move
 abbrev pub close : {δ : Dims} → World δ → ℕ → ℕ → ℕ → ℕ → World δ

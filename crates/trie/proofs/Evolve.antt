@@ -1,5 +1,5 @@
 -- What a turn of another worker may have done, seen by one worker, and what it leaves true for that worker.
--- Relies on Digits, Update, Lists, Chain, Tree, Read and World.
+-- Relies on Digits, Update, Lists, Tree, Read and World.
 use mathlib.Core.Path.{_≡_, refl, sym, ap, _∙_}
 use mathlib.Core.Logic.{_≢_}
 use mathlib.Core.List.{List, [], _∷_, _++_, append-assoc, append-nil, Memᴰ·append-left, Memᴰ·append-right, List·Memᴰ·head}

@@ -2,7 +2,7 @@
 -- Relies on Digits, Update, Lists, Grow, Chain, Tree, World, Read, Evolve and Frame.
 use mathlib.Core.Path.{_≡_, refl, sym, ap, _∙_}
 use mathlib.Core.Logic.{_≢_, _⊎_, inl, inr}
-use mathlib.Core.List.{List, [], _∷_, _++_, List·Memᴰ·eq-of-singleton, append-nil}
+use mathlib.Core.List.{List, [], _∷_, _++_, List·Memᴰ·eq-of-singleton}
 use Prim.Native.Nat.{ℕ, suc, _+_, _*_, _<_}
 use native.Mathlib.Decide.{ℕ-discrete}
 use lib.ListN.{length}
@@ -12,10 +12,10 @@ use Rattle.trie.proofs.Lists.{_∈_, ∈-last}
 use Rattle.trie.proofs.Grow.{grown, grown-at, grown-other, grown-came, grown-stays, grown-new, grown-once, shrunk, shrunk-at, shrunk-other, shrunk-came, shrunk-stays, shrunk-once}
 use Rattle.trie.proofs.Chain.{levelRef, nodeRef}
 use Rattle.trie.proofs.Tree.{Published, Inside}
-use Rattle.trie.proofs.World.{World, Placed, lastCell, NodeInside, RefInside, to-level, to-node, Homed, SlotAt, SlotOk, Structure, Partition}
+use Rattle.trie.proofs.World.{World, Placed, lastCell, NodeInside, RefInside, to-node, Homed, SlotAt, SlotOk, Structure}
 use Rattle.trie.proofs.Read.{inside-child}
 use Rattle.trie.proofs.Evolve.{Grows, Spares, Changed, same, longer, shorter, none-noted, grows-tree, ref-stays, homed-stays}
-use Rattle.trie.proofs.Frame.{one-slot, ends-apart, entry-away, node-away, held-away, level-away, slot-other, slot-grow, slot-shrink}
+use Rattle.trie.proofs.Frame.{one-slot, ends-apart, node-away, held-away, level-away, slot-other, slot-grow, slot-shrink}
 
 -- node n leaves the chain of (H, e), of which `pre` stays, for the end of that of (T, d)
 abbrev pub moveOne : {δ : Dims} → World δ → ℕ → ℕ → List ℕ → ℕ → ℕ → ℕ → World δ

@@ -11,7 +11,7 @@ use Rattle.trie.proofs.Digits.{Dims, top, digit, digit-lt, top-suc, sha
 use Rattle.trie.proofs.Update.{ent, upd-same, upd-other, updC-same, upd₂-same, updL-in, updL-next}
 use Rattle.trie.proofs.Lists.{_∈_, ∈-last, snoc-view, no-length}
 use Rattle.trie.proofs.Chain.{levelRef, nodeRef, endCell, Links, links-next}
-use Rattle.trie.proofs.Tree.{Published, Inside, here, up, OnPath, inside-pub, path-down}
+use Rattle.trie.proofs.Tree.{Published, Inside, here, OnPath, inside-pub, path-down}
 use Rattle.trie.proofs.World.{World, Placed, lastCell, to-level, Structure, Partition, Deep}
 use Rattle.trie.proofs.Read.{home-path, inside-child, goBack, back-is, exchange-next}
 use Rattle.trie.proofs.Evolve.{path-stays, level-stays}
@@ -21,7 +21,7 @@ use Rattle.trie.proofs.Close.{close, CanClose, close-grows, close-struc
 use Rattle.trie.proofs.Redirect.{redirect, CanRedirect, redirect-grows, redirect-structure}
 use Rattle.trie.proofs.MoveOne.{moveOne, CanMove, move-grows, move-structure, at-source, elsewhere}
 use Rattle.trie.proofs.TakeLevel.{takeLevel, level-grows, level-structure}
-use Rattle.trie.proofs.Search.{peek, put, again, level, shut, word, Blank, Local, peeks, shuts, absent, shut-done}
+use Rattle.trie.proofs.Search.{peek, put, again, level, shut, word, Blank, Local, shuts, absent, shut-done}
 use Rattle.trie.proofs.Move.{Frame, edge, FrameOk, Around, outermost, within, Setting, set-peeks, set-puts, set-reads, set-levels, set-shuts, gather, aim, set, finish, Moving, gathers, aims, sets, finishes, last-in, last-placed, last-cell, Keeps, frame-stays, around-stays, setting-stays}
 
 -- the last node of a frame lies on the child's path
@@ -124,7 +124,7 @@ pub data AfterMove {δ : Dims} (w : World δ) (v K : ℕ) (f : Frame) (fs : List
   emptied : pre ≡ [] → Moving w v K (withNodes f pre) fs finish → AfterMove w v K f fs pre
   next-one : (N : ℕ) → Moving w v K (withNodes f pre) fs (aim N (f .child)) → AfterMove w v K f fs pre
 
--- a frame of a world with the same levels and nodes
+-- the child of a frame is published
 pub frame-published : {δ : Dims} {w : World δ} (S : Structure w) {v : ℕ} {f : Frame} {ns : List ℕ} → FrameOk w v f ns → Published (w .tree) (f .child)
 frame-published {δ} {w} S {v} {f} k = rw (k .leads) at (S .tree-ok .closed (f .home) (edge w f) (λ y. k .real (sym (k .leads) ∙ y)) .to)
 

@@ -1,5 +1,5 @@
 -- The table right after an opening: one empty level, no node.
--- Relies on Digits, Update, Lists, Chain, Tree, World and Whole.
+-- Relies on Digits, Update, Chain, World and Whole.
 use mathlib.Core.Path.{_≡_, refl, ap}
 use mathlib.Core.Logic.{_≢_}
 use mathlib.Core.List.{[], List·Memᴰ·not-nil}

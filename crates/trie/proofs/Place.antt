@@ -12,9 +12,9 @@ use Rattle.trie.proofs.Lists.{_∈_, ∈-last, nodup-snoc}
 use Rattle.trie.proofs.Grow.{grown, grown-at, grown-other, grown-came, grown-stays, grown-new, grown-once}
 use Rattle.trie.proofs.Chain.{levelRef, nodeRef}
 use Rattle.trie.proofs.Tree.{Published}
-use Rattle.trie.proofs.World.{World, Placed, lastCell, NodeInside, RefInside, to-level, to-node, Homed, SlotOk, Structure, Partition}
+use Rattle.trie.proofs.World.{World, Placed, lastCell, Homed, SlotOk, Structure, Partition}
 use Rattle.trie.proofs.Evolve.{Grows, Spares, Changed, same, longer, grows-tree, ref-stays, homed-stays}
-use Rattle.trie.proofs.Frame.{one-slot, ends-apart, entry-away, node-away, held-away, level-away, slot-other, slot-grow}
+use Rattle.trie.proofs.Frame.{ends-apart, held-away, level-away, slot-other, slot-grow}
 
 -- node n goes to the end of the chain of (H, e)
 abbrev pub place : {δ : Dims} → World δ → ℕ → ℕ → ℕ → World δ

@@ -14,14 +14,10 @@ use Rattle.trie.proofs.Chain.{levelRef, nodeRef, Links, end-at, links-a
 use Rattle.trie.proofs.Tree.{Tree, Published, TreeOk, Inside, here, up, OnPath, inside-depth, inside-trans, closed-depth, not-inside, one-level, deepest}
 use Rattle.trie.proofs.World.{World, Placed, end, NodeInside, RefInside, to-level, to-node, Homed, Structure, Deep, Walk, along, gone, Other}
 
--- a reference inside c, by its parity
+-- an even reference inside c is a level inside c
 pub ref-level : {δ : Dims} {w : World δ} {c r t : ℕ} → RefInside w c r → r ≡ levelRef t → Inside (w .tree) c t
 ref-level {t = t} (to-level u p i) q = let same : u ≡ t = omega arith in rw same at i
 ref-level (to-node n p i) q = absurd (omega arith)
-
-pub ref-node : {δ : Dims} {w : World δ} {c r n : ℕ} → RefInside w c r → r ≡ nodeRef n → NodeInside w c n
-ref-node (to-level u p i) q = absurd (omega arith)
-ref-node {n = n} (to-node m p i) q = let same : m ≡ n = omega arith in rw same at i
 
 -- what is inside a child of a level inside c is inside c
 pub inside-child : {δ : Dims} {T : Tree δ} (ok : TreeOk T) {c g e t : ℕ} → T .into g e ≢ 0 → Inside T c g → Inside T (T .into g e) t → Inside T c t

@@ -1,17 +1,16 @@
 -- Effects E5 and E7: the end of a chain that is moving is pointed elsewhere inside the child (SetNext), or, where the chain is empty, to the child (MoveEnd).
--- Relies on Digits, Update, Lists, Chain, Tree, World, Evolve and Frame.
+-- Relies on Digits, Update, Chain, Tree, World, Evolve and Frame.
 use mathlib.Core.Path.{_≡_, refl, sym, ap, _∙_}
 use mathlib.Core.Logic.{_≢_}
-use mathlib.Core.List.{[], append-nil}
+use mathlib.Core.List.{[]}
 use Prim.Native.Nat.{ℕ, _<_}
 use Rattle.trie.proofs.Digits.{Dims}
 use Rattle.trie.proofs.Update.{ent, nxt, updC, updC-same, updC-other, same-entry?}
-use Rattle.trie.proofs.Lists.{_∈_}
 use Rattle.trie.proofs.Chain.{levelRef, ent-nxt, links-end}
 use Rattle.trie.proofs.Tree.{Published}
-use Rattle.trie.proofs.World.{World, lastCell, NodeInside, RefInside, to-level, to-node, Homed, SlotOk, Structure, Partition}
+use Rattle.trie.proofs.World.{World, lastCell, RefInside, SlotOk, Structure}
 use Rattle.trie.proofs.Evolve.{Grows, Spares, same, none-noted, grows-tree, ref-stays, homed-stays}
-use Rattle.trie.proofs.Frame.{one-slot, ends-apart, entry-away, node-away, held-away, level-away, slot-other}
+use Rattle.trie.proofs.Frame.{ends-apart, held-away, level-away, slot-other}
 
 -- the end of the chain of (H, e) becomes r; `mover` after it is mv
 abbrev pub redirect : {δ : Dims} → World δ → ℕ → ℕ → ℕ → (ℕ → ℕ) → World δ

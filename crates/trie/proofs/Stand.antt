@@ -1,6 +1,5 @@
--- Where a worker stands on its way along the chain of (H, e), and what it may conclude from the word there. The same for a search and for setting a
+-- Where a worker stands on its way along the chain of (H, e), and what it may conclude from the word there, in a search and in setting a node alike: P is what held of the nodes passed.
 -- Relies on Digits, Update, Lists, Chain, Tree, World, Read and Evolve.
--- node: P is what held of the nodes passed. Assumes nothing.
 use mathlib.Core.Path.{_≡_, refl, sym, ap, _∙_}
 use mathlib.Core.Logic.{_≢_, _⊎_, inl, inr}
 use mathlib.Core.List.{List, [], _∷_, _++_, append-nil, append-assoc, List·Memᴰ·not-nil, List·Memᴰ·append-cases, List·Memᴰ·eq-of-singleton, List·Memᴰ·head, List·Memᴰ·tail, Memᴰ·append-right}

@@ -1,16 +1,14 @@
 -- Effect E2: a worker takes a level, a new one or its spare, and writes all its words (Level, SetLevel).
--- Relies on Digits, Update, Lists, Chain, Tree, World, Evolve and Frame.
+-- Relies on Digits, Update, Chain, Tree, World, Evolve and Frame.
 use mathlib.Core.Path.{_≡_, refl, sym, ap, _∙_}
 use mathlib.Core.Logic.{_≢_}
-use mathlib.Core.List.{[], append-nil}
 use Prim.Native.Nat.{ℕ}
 use native.Mathlib.Decide.{ℕ-discrete}
 use Rattle.trie.proofs.Digits.{Dims}
 use Rattle.trie.proofs.Update.{ent, upd, upd-same, upd-other, updL, updL-other, updL-next}
-use Rattle.trie.proofs.Lists.{_∈_}
 use Rattle.trie.proofs.Chain.{levelRef, links-frame}
-use Rattle.trie.proofs.Tree.{Published, Child, TreeOk, Inside, inside-mono}
-use Rattle.trie.proofs.World.{World, NodeInside, RefInside, to-level, to-node, Homed, Structure, Partition}
+use Rattle.trie.proofs.Tree.{Published, Child, TreeOk, inside-mono}
+use Rattle.trie.proofs.World.{World, Structure}
 use Rattle.trie.proofs.Evolve.{Grows, Spares, same, none-noted, ref-stays, homed-stays}
 use Rattle.trie.proofs.Frame.{slot-frame}
 

@@ -1,15 +1,13 @@
 -- Effect E1: a worker takes a node, a new one or its spare, and writes both words (Take, TakeTail).
--- Relies on Digits, Update, Lists, Chain, Tree, World, Evolve and Frame.
+-- Relies on Digits, Update, Chain, World, Evolve and Frame.
 use mathlib.Core.Path.{_≡_, refl, sym, ap, _∙_}
 use mathlib.Core.Logic.{_≢_}
-use mathlib.Core.List.{[], append-nil}
 use Prim.Native.Nat.{ℕ}
 use native.Mathlib.Decide.{ℕ-discrete}
 use Rattle.trie.proofs.Digits.{Dims}
 use Rattle.trie.proofs.Update.{Cell, nxt, upd, upd-same, upd-other, updC, updC-other}
-use Rattle.trie.proofs.Lists.{_∈_}
 use Rattle.trie.proofs.Chain.{nxt-inj, ent-nxt}
-use Rattle.trie.proofs.World.{World, Placed, NodeInside, RefInside, to-level, to-node, Homed, Structure, Partition}
+use Rattle.trie.proofs.World.{World, Placed, Structure, Partition}
 use Rattle.trie.proofs.Evolve.{Grows, Spares, same, none-noted, grows-tree, ref-stays, homed-stays, partition-stays}
 use Rattle.trie.proofs.Frame.{held-away, slot-frame}
 

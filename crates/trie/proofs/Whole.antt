@@ -1,5 +1,5 @@
 -- All workers: the whole invariant, and that a turn of one worker keeps it.
--- Relies on Digits, Update, Chain, World, Evolve, Stand, Search and Move.
+-- Relies on Digits, Update, World, Evolve, Search and Move.
 use mathlib.Core.Path.{_≡_}
 use mathlib.Core.Logic.{_≢_, _↔_}
 use mathlib.Core.List.{List}
@@ -11,7 +11,7 @@ use Rattle.trie.proofs.Digits.{Dims}
 use Rattle.trie.proofs.Update.{upd, upd-same, upd-other}
 use Rattle.trie.proofs.World.{World, Structure, Partition}
 use Rattle.trie.proofs.Evolve.{Grows, Spares}
-use Rattle.trie.proofs.Search.{Phase, level, Local, local-stays}
+use Rattle.trie.proofs.Search.{Phase, Local, local-stays}
 use Rattle.trie.proofs.Move.{Frame, Step, Moving, moving-stays}
 
 pub data Act : Type 0 where
