@@ -12,7 +12,7 @@ use Rattle.trie.proofs.Lists.{no-members}
 use Rattle.trie.proofs.Chain.{levelRef, ent-nxt, links-end}
 use Rattle.trie.proofs.Tree.{Published, Child, Closed, TreeOk, here, inside-mono}
 use Rattle.trie.proofs.World.{World, lastCell, to-level, SlotOk, Structure}
-use Rattle.trie.proofs.Evolve.{Grows, Spares, same, none-noted, ref-stays, homed-stays}
+use Rattle.trie.proofs.Evolve.{Grows, Spares, same, none-noted, child-stays, entry-stays, ref-stays, homed-stays}
 use Rattle.trie.proofs.Frame.{ends-apart, entry-away, held-away, level-away, slot-other}
 
 -- the chain of (H, e) closed by level G, which worker v (its number + 2) will move
@@ -72,6 +72,21 @@ module _ {δ : Dims} {w : World δ} (S : Structure w) {H e G : ℕ} (k : CanClos
   old-entry : (g d : ℕ) → w .tree .into g d ≢ 0 → ¬ ((g ≡ H) × (d ≡ e))
   old-entry g d z q = z (rw (q .0, q .1) (k .idle))
 
+  pub close-grows : Grows w after
+  close-grows =
+      record {
+        published = published;
+        prev-is = λ g p. refl;
+        depth-is = λ g p. refl;
+        pfx-is = λ g p. refl;
+        into-is = λ g d p. into-other g d (old-entry g d p);
+        pixel-is = λ m p. refl;
+        placed-stays = λ m p. p;
+        inside-stays = λ c m i. record { placed = i .placed; inside = inside-mono published (λ g p. refl) (i .inside) };
+        changed = λ g d. same refl;
+        book-grows = none-noted (w .book);
+      }
+
   child′ : (g : ℕ) → Published (after .tree) g → g ≢ 0 → Dec (g ≡ G) → Child (after .tree) g
   child′ g p z (yes q) = rw q (record {
     parent = rw (k .prev-is) (published H (k .level));
@@ -81,16 +96,7 @@ module _ {δ : Dims} {w : World δ} (S : Structure w) {H e G : ℕ} (k : CanClos
     prefix = rw (k .prev-is) (k .pfx-is);
     leads = rw (k .prev-is) into-at;
   })
-  child′ g p z (no q) =
-      let c = S .tree-ok .child g (was q p) z in
-      record {
-        parent = published (w .tree .prev g) (c .parent);
-        deeper = c .deeper;
-        edge = c .edge;
-        edge-lt = c .edge-lt;
-        prefix = c .prefix;
-        leads = into-other (w .tree .prev g) (c .edge) (old-entry (w .tree .prev g) (c .edge) (λ y. z (sym (c .leads) ∙ y))) ∙ c .leads;
-      }
+  child′ g p z (no q) = child-stays close-grows (was q p) z (S .tree-ok .child g (was q p) z)
 
   closed′ : (g d : ℕ) → after .tree .into g d ≢ 0 → Dec ((g ≡ H) × (d ≡ e)) → Closed (after .tree) g d
   closed′ g d z (yes q) =
@@ -101,16 +107,7 @@ module _ {δ : Dims} {w : World δ} (S : Structure w) {H e G : ℕ} (k : CanClos
         back = rw into-at (k .prev-is);
         prefix = rw into-at (k .pfx-is);
       })
-  closed′ g d z (no q) =
-      let same = into-other g d q in
-      let c = S .tree-ok .closed g d (λ y. z (same ∙ y)) in
-      record {
-        from = published g (c .from);
-        at = c .at;
-        to = rw same (published (w .tree .into g d) (c .to));
-        back = rw same (c .back);
-        prefix = rw same (c .prefix);
-      }
+  closed′ g d z (no q) = let y : w .tree .into g d ≢ 0 = rw (into-other g d q) at z in entry-stays close-grows y (S .tree-ok .closed g d y)
 
   tree-ok′ : TreeOk (after .tree)
   tree-ok′ =
@@ -126,21 +123,6 @@ module _ {δ : Dims} {w : World δ} (S : Structure w) {H e G : ℕ} (k : CanClos
       bounded′ : (g : ℕ) → Published (after .tree) g → Dec (g ≡ G) → w .tree .depth g < δ .depths
       bounded′ g p (yes q) = rw (q, k .depth-is) (k .not-deepest)
       bounded′ g p (no q) = S .tree-ok .bounded g (was q p)
-
-  pub close-grows : Grows w after
-  close-grows =
-      record {
-        published = published;
-        prev-is = λ g p. refl;
-        depth-is = λ g p. refl;
-        pfx-is = λ g p. refl;
-        into-is = λ g d p. into-other g d (old-entry g d p);
-        pixel-is = λ m p. refl;
-        placed-stays = λ m p. p;
-        inside-stays = λ c m i. record { placed = i .placed; inside = inside-mono published (λ g p. refl) (i .inside) };
-        changed = λ g d. same refl;
-        book-grows = none-noted (w .book);
-      }
 
   -- the new level's chains are empty and open
   empty : (d : ℕ) → w .chain G d ≡ []

@@ -7,7 +7,7 @@ use Prim.Native.Nat.{ℕ, _≤_}
 use Rattle.trie.proofs.Digits.{Dims, top}
 use Rattle.trie.proofs.Update.{ent, nxt}
 use Rattle.trie.proofs.Lists.{_∈_, Cut, kept, went, cut-append}
-use Rattle.trie.proofs.Tree.{Published, Inside, here, inside-mono, OnPath, deepest}
+use Rattle.trie.proofs.Tree.{Published, Child, Closed, Inside, here, inside-mono, OnPath, deepest}
 use Rattle.trie.proofs.Read.{home-path}
 use Rattle.trie.proofs.World.{World, Placed, lastCell, NodeInside, RefInside, to-level, to-node, Homed, Structure, Partition, Deep, Walk, along, gone, Other}
 
@@ -68,6 +68,31 @@ module _ {δ : Dims} {w w′ : World δ} (E : Grows w w′) where
 
   pub level-stays : {c t : ℕ} → Inside (w .tree) c t → Inside (w′ .tree) c t
   level-stays i = inside-mono (E .published) (E .prev-is) i
+
+  pub child-stays : {g : ℕ} → Published (w .tree) g → g ≢ 0 → Child (w .tree) g → Child (w′ .tree) g
+  child-stays {g} p z c =
+      let h = w .tree .prev g in
+      let q = E .prev-is g p in
+      record {
+        parent = rw q (E .published h (c .parent));
+        deeper = rw (q, E .depth-is g p, E .depth-is h (c .parent)) (c .deeper);
+        edge = c .edge;
+        edge-lt = c .edge-lt;
+        prefix = rw (q, E .pfx-is g p, E .pfx-is h (c .parent)) (c .prefix);
+        leads = rw q (E .into-is h (c .edge) (λ y. z (sym (c .leads) ∙ y)) ∙ c .leads);
+      }
+
+  pub entry-stays : {g e : ℕ} → w .tree .into g e ≢ 0 → Closed (w .tree) g e → Closed (w′ .tree) g e
+  entry-stays {g} {e} z c =
+      let h = w .tree .into g e in
+      let q = E .into-is g e z in
+      record {
+        from = E .published g (c .from);
+        at = c .at;
+        to = rw q (E .published h (c .to));
+        back = rw q (E .prev-is h (c .to) ∙ c .back);
+        prefix = rw (q, E .pfx-is h (c .to), E .pfx-is g (c .from)) (c .prefix);
+      }
 
   pub ref-stays : (c r : ℕ) → RefInside w c r → RefInside w′ c r
   ref-stays c r (to-level t p i) = to-level t p (level-stays i)

@@ -7,9 +7,9 @@ use native.Mathlib.Decide.{ℕ-discrete}
 use Rattle.trie.proofs.Digits.{Dims}
 use Rattle.trie.proofs.Update.{ent, upd, upd-same, upd-other, updL, updL-other, updL-next}
 use Rattle.trie.proofs.Chain.{levelRef, links-frame}
-use Rattle.trie.proofs.Tree.{Published, Child, TreeOk, inside-mono}
+use Rattle.trie.proofs.Tree.{Published, TreeOk, inside-mono}
 use Rattle.trie.proofs.World.{World, Structure}
-use Rattle.trie.proofs.Evolve.{Grows, Spares, same, none-noted, ref-stays, homed-stays}
+use Rattle.trie.proofs.Evolve.{Grows, Spares, same, none-noted, child-stays, entry-stays, ref-stays, homed-stays}
 use Rattle.trie.proofs.Frame.{slot-frame}
 
 -- level G under H, at depth d, with prefix p and empty entries, held by v
@@ -58,33 +58,6 @@ module _ {δ : Dims} {w : World δ} (S : Structure w) {G : ℕ} (held : w .tree 
   pfx-is : (g : ℕ) → Published (w .tree) g → taken .tree .pfx g ≡ w .tree .pfx g
   pfx-is g q = upd-other (w .tree .pfx) G p g (not-G q)
 
-  child′ : (g : ℕ) → Published (w .tree) g → g ≢ 0 → Child (taken .tree) g
-  child′ g q z =
-      let c = S .tree-ok .child g q z in
-      let e = prev-is g q in
-      record {
-        parent = rw e (published (w .tree .prev g) (c .parent));
-        deeper = rw (e, depth-is g q, depth-is (w .tree .prev g) (c .parent)) (c .deeper);
-        edge = c .edge;
-        edge-lt = c .edge-lt;
-        prefix = rw (e, pfx-is g q, pfx-is (w .tree .prev g) (c .parent)) (c .prefix);
-        leads = rw e (c .leads);
-      }
-
-  tree-ok′ : TreeOk (taken .tree)
-  tree-ok′ =
-      let k = S .tree-ok in
-      record {
-        root = published 0 (k .root);
-        root-depth = depth-is 0 (k .root) ∙ k .root-depth;
-        root-pfx = pfx-is 0 (k .root) ∙ k .root-pfx;
-        child = λ g q z. child′ g (was q) z;
-        bounded = λ g q. rw (depth-is g (was q)) (k .bounded g (was q));
-        closed = λ g e z.
-            let c = k .closed g e z in
-            record { from = published g (c .from); at = c .at; to = published (w .tree .into g e) (c .to); back = prev-is (w .tree .into g e) (c .to) ∙ c .back; prefix = rw (pfx-is (w .tree .into g e) (c .to), pfx-is g (c .from)) (c .prefix) };
-      }
-
   pub level-grows : Grows w taken
   level-grows =
       record {
@@ -98,6 +71,18 @@ module _ {δ : Dims} {w : World δ} (S : Structure w) {G : ℕ} (held : w .tree 
         inside-stays = λ c m i. record { placed = i .placed; inside = inside-mono published prev-is (i .inside) };
         changed = λ g e. same refl;
         book-grows = none-noted (w .book);
+      }
+
+  tree-ok′ : TreeOk (taken .tree)
+  tree-ok′ =
+      let k = S .tree-ok in
+      record {
+        root = published 0 (k .root);
+        root-depth = depth-is 0 (k .root) ∙ k .root-depth;
+        root-pfx = pfx-is 0 (k .root) ∙ k .root-pfx;
+        child = λ g q z. child-stays level-grows (was q) z (k .child g (was q) z);
+        bounded = λ g q. rw (depth-is g (was q)) (k .bounded g (was q));
+        closed = λ g e z. entry-stays level-grows z (k .closed g e z);
       }
 
   pub level-structure : Structure taken

@@ -42,10 +42,10 @@ pub record WorkerOk {δ : Dims} (w : World δ) (v : ℕ) (c : Worker) : Type 0 w
 abbrev pub owner : ℕ → ℕ
 owner i = suc (suc i)
 
-pub record Inv {δ : Dims} (w : World δ) (workers : ℕ → Worker) : Type 0 where
+pub record Inv {δ : Dims} (w : World δ) (ws : ℕ → Worker) : Type 0 where
   pub structure : Structure w
   pub partition : Partition w
-  pub each : (i : ℕ) → WorkerOk w (owner i) (workers i)
+  pub each : (i : ℕ) → WorkerOk w (owner i) (ws i)
 
 -- v owns what it owned, and nothing new
 pub record SameOwns {δ : Dims} (v : ℕ) (w w′ : World δ) : Type 0 where
@@ -70,17 +70,17 @@ module _ {δ : Dims} {w w′ : World δ} (E : Grows w w′) (S : Structure w) (S
       }
 
 -- one worker's turn: the world changes so that the others are spared, and the worker's own clause holds of its new record
-pub inv-step : {δ : Dims} {w w′ : World δ} {workers : ℕ → Worker} (I : Inv w workers) (i : ℕ) (c : Worker) → Grows w w′ → Structure w′ → Partition w′ → ((j : ℕ) → j ≢ i → Spares (owner j) w w′ × SameOwns (owner j) w w′) → WorkerOk w′ (owner i) c → Inv w′ (upd workers i c)
-inv-step {δ} {w} {w′} {workers} I i c E S′ Q′ X k = record { structure = S′; partition = Q′; each = λ j. by j (ℕ-discrete j i) }
+pub inv-step : {δ : Dims} {w w′ : World δ} {ws : ℕ → Worker} (I : Inv w ws) (i : ℕ) (c : Worker) → Grows w w′ → Structure w′ → Partition w′ → ((j : ℕ) → j ≢ i → Spares (owner j) w w′ × SameOwns (owner j) w w′) → WorkerOk w′ (owner i) c → Inv w′ (upd ws i c)
+inv-step {δ} {w} {w′} {ws} I i c E S′ Q′ X k = record { structure = S′; partition = Q′; each = λ j. by j (ℕ-discrete j i) }
   where
-    by : (j : ℕ) → Dec (j ≡ i) → WorkerOk w′ (owner j) (upd workers i c j)
-    by j (yes e) = rw (e, upd-same workers i c) k
-    by j (no e) = rw (upd-other workers i c j e) (worker-stays E (I .structure) S′ (I .partition) (X j e .0) (X j e .1) (I .each j))
+    by : (j : ℕ) → Dec (j ≡ i) → WorkerOk w′ (owner j) (upd ws i c j)
+    by j (yes e) = rw (e, upd-same ws i c) k
+    by j (no e) = rw (upd-other ws i c j e) (worker-stays E (I .structure) S′ (I .partition) (X j e .0) (X j e .1) (I .each j))
 
 -- a turn that changes no word
-pub stay-step : {δ : Dims} {w : World δ} {workers : ℕ → Worker} (I : Inv w workers) (i : ℕ) (c : Worker) → WorkerOk w (owner i) c → Inv w (upd workers i c)
-stay-step {δ} {w} {workers} I i c k = record { structure = I .structure; partition = I .partition; each = λ j. by j (ℕ-discrete j i) }
+pub stay-step : {δ : Dims} {w : World δ} {ws : ℕ → Worker} (I : Inv w ws) (i : ℕ) (c : Worker) → WorkerOk w (owner i) c → Inv w (upd ws i c)
+stay-step {δ} {w} {ws} I i c k = record { structure = I .structure; partition = I .partition; each = λ j. by j (ℕ-discrete j i) }
   where
-    by : (j : ℕ) → Dec (j ≡ i) → WorkerOk w (owner j) (upd workers i c j)
-    by j (yes e) = rw (e, upd-same workers i c) k
-    by j (no e) = rw (upd-other workers i c j e) (I .each j)
+    by : (j : ℕ) → Dec (j ≡ i) → WorkerOk w (owner j) (upd ws i c j)
+    by j (yes e) = rw (e, upd-same ws i c) k
+    by j (no e) = rw (upd-other ws i c j e) (I .each j)
