@@ -13,7 +13,8 @@ for n in $names; do
         echo "readers guide: $n is not declared in $file"; bad=1
     fi
 done
-for crate in rules bench text run; do
+# steps, worker, mover, table, turns and lists have mirrors of the code alone
+for crate in words settings areas record rules bench text printing run export; do
     for file in crates/$crate/specs/*.antt; do
         module=$(basename "$file" .antt)
         case $module in Lib | Everything | Cut | Remaining) continue ;; esac

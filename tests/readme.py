@@ -17,7 +17,7 @@ def read(path):
 
 
 def declared(name, text):
-    return re.search(r"(?:\bfn |\bpub |^)(?:record |data )?" + re.escape(name) + r"(?![\w-])", text, re.M)
+    return re.search(r"(?:\bfn |\bpub |\bconst |^)(?:record |data )?" + re.escape(name) + r"(?![\w-])", text, re.M)
 
 
 links = names = 0
@@ -27,10 +27,13 @@ for path in ["README.md"] + sorted(os.path.relpath(p, ROOT) for p in glob.glob(o
         links += 1
         if not os.path.exists(os.path.join(ROOT, os.path.dirname(path), target)):
             bad.append("%s links to %s, which is not there" % (path, target))
-    for said, target in re.findall(r"((?:`[\w-]+`, )*`[\w-]+`)\s+in\s+\[[^]]*\]\(([^)#:]+\.(?:antt|rt))\)", text):
+    several = r"((?:`[\w-]+`, )*`[\w-]+`)\s+"
+    pairs = [(said, os.path.join(os.path.dirname(path), t)) for said, t in re.findall(several + r"in\s+\[[^]]*\]\(([^)#:]+\.(?:antt|rt))\)", text)]
+    pairs += re.findall(several + r"(?:of|in)\s+`(crates/[^`]+\.(?:antt|rt))`", text)
+    for said, target in pairs:
         for name in re.findall(r"`([\w-]+)`", said):
             names += 1
-            if not declared(name, read(os.path.join(os.path.dirname(path), target))):
+            if not os.path.exists(os.path.join(ROOT, target)) or not declared(name, read(target)):
                 bad.append("%s: %s is not declared in %s" % (path, name, target))
 
 readme = read("README.md")

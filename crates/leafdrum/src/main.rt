@@ -1,5 +1,5 @@
 // The text program: reads standard input, and writes what the run over it prints.
-// Relies on run for what is printed, on text for its bytes, on io for reading and writing.
+// Relies on run for what is printed, on printing for its bytes, on io for reading and writing.
 ghost use mathlib.Core.Path.{_≡_};
 ghost use lib.ListN.{take};
 ghost use Rattle.printing.specs.Printing.{bytesOf};
@@ -9,27 +9,29 @@ use run::begin;
 use run::goes_on;
 use run::next;
 
-// The n bytes that spell x are written.
-fn put_bytes(x: Printed, out: &[u8; 64], n: usize)
+// The n bytes that spell x are written; false where writing fails.
+fn put_bytes(x: Printed, out: &[u8; 64], n: usize) -> bool
     requires { ⌜ take n (now out) ≡ bytesOf x ⌝ }
 {
     let all: &[u8] = out;
-    io::write_all(1, &all[..n]);
+    io::write_all(1, &all[..n])
 }
 
-fn put_out(x: Printed) {
+fn put_out(x: Printed) -> bool {
     let mut out = [0u8; 64];
     let n = spell(x, &mut out);
-    put_bytes(x, &out, n);
+    put_bytes(x, &out, n)
 }
 
-// Everything that is printed for an input, one thing after the other.
+// Everything that is printed for an input, one thing after the other, until writing fails.
 fn put_all(input: &[u8], nodes: &mut [u32], levels: &mut [u32], workers: &mut [u32]) {
     let mut p = begin();
     while goes_on(p) {
         let t = next(p, input, nodes, levels, workers);
         let x = t.printed;
-        put_out(x);
+        if !put_out(x) {
+            return;
+        }
         let q = t.progress;
         p = q;
     }

@@ -33,12 +33,6 @@ next-requires c κs = search needs
 put-out-requires : tie.Need-put-out-requires Inv-loop μ-loop
 put-out-requires c κs = search needs
 
-loop-less : tie.Need-loop-less Inv-loop μ-loop
-loop-less c = search (needs, run-less)
-
-loop-again : tie.Need-loop-again Inv-loop μ-loop
-loop-again c = search (needs, run-fine)
-
 same-length : tie.Need-same-length Inv-loop μ-loop
 same-length c = search needs
 
@@ -51,6 +45,24 @@ same-length-3 c = search needs
 returns : tie.Need-returns Inv-loop μ-loop
 returns c = search needs
 
+loop-less : tie.Need-loop-less Inv-loop μ-loop
+loop-less c = search (needs, run-less)
+
+loop-again : tie.Need-loop-again Inv-loop μ-loop
+loop-again c = search (needs, run-fine)
+
+same-length-4 : tie.Need-same-length-4 Inv-loop μ-loop
+same-length-4 c = search needs
+
+same-length-5 : tie.Need-same-length-5 Inv-loop μ-loop
+same-length-5 c = search needs
+
+same-length-6 : tie.Need-same-length-6 Inv-loop μ-loop
+same-length-6 c = search needs
+
+returns-2 : tie.Need-returns-2 Inv-loop μ-loop
+returns-2 c = search needs
+
 pub put-all-spec : {M : Type 1} → statement M
 put-all-spec =
     tie.close
@@ -62,9 +74,13 @@ put-all-spec =
     goes-on-requires
     next-requires
     put-out-requires
-    loop-less
-    loop-again
     same-length
     same-length-2
     same-length-3
-    returns)
+    returns
+    loop-less
+    loop-again
+    same-length-4
+    same-length-5
+    same-length-6
+    returns-2)
