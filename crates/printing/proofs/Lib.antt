@@ -1,3 +1,4 @@
 -- The laws of printed bytes that other crates use.
 -- Relies on text.
 pub mod Spelling
+pub mod Numbers
