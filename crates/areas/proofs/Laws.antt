@@ -13,7 +13,7 @@ use Rattle.settings.specs.Sizes.{levelWords}
 use Rattle.settings.specs.declared.Settings.{Settings}
 use Rattle.areas.specs.declared.Cell.{Cell}
 use Rattle.areas.specs.declared.Cell.the-variants.{Entry, Next}
-use Rattle.areas.specs.Memory.{Memory, memory, levelRef, isNode, named, pixelAt, nextAt, previousAt, depthAt, entryAt, cellAt, setCell, entryCell, fillLevel, levelTaken, nodeTaken, refTaken}
+use Rattle.areas.specs.Memory.{memory, levelRef, isNode, named, pixelAt, nextAt, previousAt, depthAt, entryAt, cellAt, setCell, entryCell, fillLevel, levelTaken, nodeTaken, refTaken}
 
 module _ (s : Settings) (r : ℕ) where
   pub ref-node : {b : Bool} {n : ℕ} → b ≡ nodeTaken s n → n ≡ named r → isNode r ≡ true → b ≡ refTaken s r

@@ -3,10 +3,10 @@
 use Prim.Native.Nat.{ℕ, _+_, _*_, _/_, _%_}
 use mathlib.Core.Bool.{Bool}
 use mathlib.Core.List.{List}
-use lib.Dec.{eqb, ltb, leb}
+use lib.Dec.{eqb, ltb}
 use lib.ListN.{getD, set}
-use Rattle.words.specs.Choice.{pick, both}
-use Rattle.words.specs.Digits.{base, depths, digit}
+use Rattle.words.specs.Choice.{pick}
+use Rattle.words.specs.Digits.{base, digit}
 use Rattle.words.specs.Blocks.{fill}
 use Rattle.settings.specs.Sizes.{nodeWords, levelWords}
 use Rattle.settings.specs.declared.Settings.{Settings}

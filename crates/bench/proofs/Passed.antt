@@ -2,7 +2,7 @@
 -- Relies on the table alone.
 use mathlib.Core.Path.{_≡_, refl}
 use mathlib.Core.Bool.{true}
-use mathlib.Core.List.{List, List·Memᴰ}
+use mathlib.Core.List.{List·Memᴰ}
 use Rattle.words.specs.Choice.{every}
 use Rattle.words.proofs.Choice.{every-at}
 use Rattle.bench.specs.Table.{Row, passes, table}

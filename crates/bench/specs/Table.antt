@@ -5,17 +5,17 @@ use mathlib.Core.Bool.{Bool, true, false}
 use mathlib.Core.List.{List, [], _∷_, _++_}
 use lib.Dec.{eqb}
 use lib.ListN.{replicate}
-use Rattle.words.specs.Choice.{pick, both, every}
+use Rattle.words.specs.Choice.{both}
 use Rattle.settings.specs.Sizes.{nodeWords, levelWords, workerWords, levelCount}
 use Rattle.settings.specs.declared.Settings.{Settings}
 use Rattle.areas.specs.Memory.{Areas, areas}
 use Rattle.record.specs.declared.Answer.{Answer}
-use Rattle.record.specs.declared.Answer.the-variants.{Nothing, New, Found, Full, Open}
+use Rattle.record.specs.declared.Answer.the-variants.{New, Found, Full, Open}
 use Rattle.record.specs.declared.Reply.{Reply}
 use Rattle.record.specs.Kinds.{answerNo, answerNode}
-use Rattle.rules.specs.Operations.{Result, opening}
-use Rattle.rules.specs.Lists.{State, state, after}
-use Rattle.rules.specs.Calls.{Event, starts, turns, happens}
+use Rattle.rules.specs.Operations.{opening}
+use Rattle.rules.specs.Lists.{State, after}
+use Rattle.rules.specs.Calls.{starts, turns, happens}
 
 -- A line of a row.
 --   start i r c n: a start of worker i for row r and column c has number n

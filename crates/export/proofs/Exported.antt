@@ -1,9 +1,8 @@
 -- One law for every function of the interface, and the ways through the level count.
 -- Relies on the definitions of what the interface gives.
 use Prim.Native.Nat.{ℕ}
-use mathlib.Core.Path.{_≡_, refl, sym, ap, _∙_}
+use mathlib.Core.Path.{_≡_, refl, sym, _∙_}
 use mathlib.Core.Bool.{true, false}
-use Rattle.words.specs.Choice.{pick}
 use Rattle.words.proofs.Choice.{pick-true, pick-false}
 use Rattle.settings.specs.Sizes.{question1, levelCount}
 use Rattle.settings.specs.declared.Settings.{Settings}

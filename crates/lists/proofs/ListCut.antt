@@ -1,6 +1,6 @@
 -- A list of turns in the code's parts is the list that document 01 defines: the limit that counts down tells the turns done.
 -- Relies on that questions 1 to 3 stay answered yes, and on the laws of the entries reached.
-use Prim.Native.Nat.{ℕ, zero, suc, _+_, _-_, _≤_}
+use Prim.Native.Nat.{ℕ, zero, suc, _+_, _-_}
 use mathlib.Core.Path.{_≡_, refl, sym, ap, _∙_}
 use mathlib.Core.Logic.{_≢_}
 use mathlib.Core.Bool.{Bool, true, false, not}
@@ -8,15 +8,14 @@ use mathlib.Core.List.{List, [], _∷_}
 use native.Mathlib.Decide.{ℕ-discrete}
 use native.Mathlib.Omega.{arith}
 use lib.Dec.{eqb, ltb}
-use borrow.Author.Tests.{eq-eqb, ne-eqb, not-true}
+use borrow.Author.Tests.{eq-eqb, ne-eqb}
 use Rattle.words.specs.Choice.{pick, both, every, asks, firstNo}
 use Rattle.words.proofs.Choice.{pick-both, pick-true, pick-false, both-left, both-right, both-true, both-false-left}
 use Rattle.settings.specs.declared.Settings.{Settings}
 use Rattle.areas.specs.Memory.{Areas}
-use Rattle.record.specs.declared.Answer.the-variants.{Nothing}
 use Rattle.rules.specs.Asked.{question4, question4All, question6, question8, question9}
 use Rattle.settings.specs.Sizes.{question1, question3}
-use Rattle.rules.specs.Operations.{Result, result, reply, question2Of, recordOf, memoryOf, turn, turnQuestions}
+use Rattle.rules.specs.Operations.{reply, question2Of, recordOf, memoryOf, turn, turnQuestions}
 use Rattle.rules.specs.Lists.{State, state, after, Visit, visit, turnAt, leftAfter, visits, endState, metSix, counts, turnsDone, listNumber, turnsResult}
 use Rattle.rules.specs.Refusals.{here, later}
 use Rattle.rules.proofs.Questions.{first-later, first-yes, gives-first-no}

@@ -25,7 +25,7 @@ use Rattle.record.specs.Kinds.{kindNo}
 use Rattle.record.specs.Layout.{headAt, load}
 use Rattle.rules.specs.Asked.{question4, question4All, question7, question8}
 use Rattle.rules.specs.Operations.{Result, result, reply, refused, unlessRefused, turn}
-use Rattle.rules.specs.Lists.{State, state, after, turns, turnsResult, visits, listQuestions}
+use Rattle.rules.specs.Lists.{State, state, turns, turnsResult, visits, listQuestions}
 use Rattle.rules.proofs.OneTurn.{six-leaves}
 use Rattle.table.specs.Cut.{firstFour}
 use Rattle.turns.specs.Cut.{turnHere, idleReply, doneOf, Did, did, didBy, didHere}

@@ -2,7 +2,7 @@
 // Relies on text for the bytes that part fields and lines. Nothing here knows the table.
 ghost use mathlib.Core.Path.{_≡_};
 ghost use mathlib.Core.List.{[], _∷_, _++_};
-ghost use Prim.Native.Nat.{_+_, _-_, _%_, _≤_};
+ghost use Prim.Native.Nat.{_+_, _%_, _≤_};
 ghost use lib.ListN.{length, take, drop};
 ghost use Rattle.text.specs.Parts.{comma, lineEnd};
 ghost use Rattle.printing.specs.Printing.{decimal, callBytes, bytesOf};

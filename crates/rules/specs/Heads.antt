@@ -1,7 +1,6 @@
 -- The private work on a record: what a turn changes in the numbers of the call and in a Move. Each definition changes what it names.
 -- Relies on the record's layout.
 use Prim.Native.Nat.{ℕ, _+_, _-_}
-use mathlib.Core.List.{List, [], _∷_}
 use lib.ListN.{getD, set}
 use Rattle.record.specs.declared.Kind.{Kind}
 use Rattle.record.specs.declared.Kind.the-variants.{Idle, Look}

@@ -1,7 +1,7 @@
 -- A list of turns: the entries that are reached, the state after them, and the number of turns done.
 -- Relies on the definition of one turn.
 use Prim.Native.Nat.{ℕ, zero, suc, _+_}
-use mathlib.Core.Bool.{Bool, true, false, not}
+use mathlib.Core.Bool.{Bool, not}
 use mathlib.Core.List.{List, [], _∷_}
 use lib.Dec.{eqb}
 use Rattle.words.specs.Choice.{pick, both, every, Question, asks, firstNo}
@@ -9,7 +9,6 @@ use Rattle.settings.specs.Sizes.{question1, question3}
 use Rattle.settings.specs.declared.Settings.{Settings}
 use Rattle.areas.specs.Memory.{Areas}
 use Rattle.record.specs.declared.Answer.the-variants.{Nothing}
-use Rattle.record.specs.declared.Reply.{Reply}
 use Rattle.rules.specs.Asked.{question4All, question8}
 use Rattle.rules.specs.Operations.{Result, result, reply, unlessRefused, question2Of, recordOf, turn}
 

@@ -1,6 +1,6 @@
 -- The operations: opening, start, one turn, last answer. Each answers with the number of the first no of its questions, else is carried out.
 -- Relies on the questions and on what a turn does.
-use Prim.Native.Nat.{ℕ, _+_, _*_}
+use Prim.Native.Nat.{ℕ}
 use mathlib.Core.Bool.{Bool}
 use mathlib.Core.List.{List, [], _∷_}
 use lib.Dec.{eqb}
@@ -11,7 +11,7 @@ use Rattle.settings.specs.Sizes.{question1, question2, question3}
 use Rattle.settings.specs.declared.Settings.{Settings}
 use Rattle.areas.specs.Memory.{Areas, areas, Memory, memory}
 use Rattle.record.specs.declared.Answer.{Answer}
-use Rattle.record.specs.declared.Answer.the-variants.{Nothing, New, Found, Full, Open}
+use Rattle.record.specs.declared.Answer.the-variants.{Nothing, Full, Open}
 use Rattle.record.specs.declared.Reply.{Reply}
 use Rattle.record.specs.declared.Head.{Head}
 use Rattle.record.specs.Kinds.{answerOf}

@@ -1,7 +1,7 @@
 -- The ten kinds of turn of a search ("Turns of a call for pixel K"). A searching worker has no Move.
 -- Relies on the steps that searching and moving share.
 use Prim.Native.Nat.{ℕ, _-_}
-use mathlib.Core.List.{List, [], _∷_}
+use mathlib.Core.List.{List, []}
 use lib.Dec.{eqb}
 use Rattle.words.specs.Choice.{pick}
 use Rattle.words.specs.Digits.{depths}

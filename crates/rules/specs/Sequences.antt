@@ -10,7 +10,7 @@ use Rattle.settings.specs.declared.Settings.{Settings}
 use Rattle.areas.specs.Memory.{Areas}
 use Rattle.rules.specs.Operations.{Result, opening, start, turn, lastAnswer}
 use Rattle.rules.specs.Lists as many
-use Rattle.rules.specs.Lists.{State, state, after, Visit, visits, listQuestions}
+use Rattle.rules.specs.Lists.{State, after, Visit, visits, listQuestions}
 use Rattle.rules.specs.Calls.{Event, stateAfter}
 use Rattle.rules.specs.Calls as event
 use Rattle.rules.specs.Demands.{Demand3}

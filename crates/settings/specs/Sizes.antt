@@ -2,7 +2,7 @@
 -- Relies on words for the digits and for the order of questions.
 use Prim.Native.Nat.{ℕ, _+_, _*_, _/_, _-_, _≤_}
 use mathlib.Core.Bool.{Bool}
-use mathlib.Core.List.{List, [], _∷_}
+use mathlib.Core.List.{[], _∷_}
 use lib.Dec.{leb}
 use Rattle.words.specs.Choice.{both, asks, firstNo}
 use Rattle.words.specs.Digits.{base, depths}

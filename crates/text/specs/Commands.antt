@@ -1,7 +1,7 @@
 -- What a line asks for: its fields, the numbers in them, and the three shapes that read.
 -- Relies on the parts of a text.
 use Prim.Native.Nat.{ℕ, _+_, _-_, _*_}
-use mathlib.Core.Bool.{Bool, true, false, not}
+use mathlib.Core.Bool.{Bool, true, not}
 use mathlib.Core.List.{List, [], _∷_}
 use lib.Dec.{eqb, leb}
 use lib.ListN.{length, getD}

@@ -1,19 +1,15 @@
 -- The ways in which a turn ends: refused by 6, or its record stored.
 -- Relies on the code's cut of a turn and on the laws of a record's store.
-use Prim.Native.Nat.{ℕ, suc, _-_, _≤_}
+use Prim.Native.Nat.{ℕ, _-_, _≤_}
 use mathlib.Core.Path.{_≡_, refl, sym, ap, _∙_}
 use mathlib.Core.Logic.{_≢_}
-use mathlib.Core.Bool.{Bool, true, false}
+use mathlib.Core.Bool.{Bool}
 use mathlib.Core.List.{List, [], _∷_}
 use native.Mathlib.Omega.{arith}
-use lib.Dec.{eqb}
-use lib.ListN.{length}
 use borrow.Author.Tests.{eq-eqb, ne-eqb}
-use Rattle.words.specs.Choice.{pick}
 use Rattle.words.proofs.Choice.{pick-both, pick-true, pick-false}
 use Rattle.settings.specs.declared.Settings.{Settings}
-use Rattle.areas.specs.Memory.{Memory, memory, Areas, areas}
-use Rattle.record.specs.declared.Answer.{Answer}
+use Rattle.areas.specs.Memory.{Memory, memory, areas}
 use Rattle.record.specs.declared.Answer.the-variants.{Nothing}
 use Rattle.record.specs.declared.Reply.{Reply}
 use Rattle.record.specs.declared.Head.{Head}
@@ -21,7 +17,7 @@ use Rattle.record.specs.declared.Move.{Move}
 use Rattle.record.specs.Kinds.{kindNo}
 use Rattle.record.specs.Layout.{Record, record′, store, storeHead, storeMoves, moveTo, movePlace, newMove}
 use Rattle.record.proofs.Records.{store-none}
-use Rattle.rules.specs.Steps.{Step, step}
+use Rattle.rules.specs.Steps.{Step}
 use Rattle.rules.specs.Operations.{result, reply, refused}
 use Rattle.steps.specs.Cut.{begun}
 use Rattle.steps.specs.Tried.{Tried, tried, unlessSix, unlessNine}

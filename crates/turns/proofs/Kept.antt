@@ -1,16 +1,14 @@
 -- Questions 1 to 3 are answered yes after a turn where they were before it: lengths and sizes stay, the counts stay in range.
 -- Relies on the definitions of the turns and on demand 1 of a turn.
-use Prim.Native.Nat.{ℕ, zero, suc, _+_, _-_, _*_, _≤_, _<_}
+use Prim.Native.Nat.{ℕ, _+_, _<_}
 use mathlib.Core.Path.{_≡_, refl, sym, ap, _∙_}
-use mathlib.Core.Logic.{_≢_}
-use mathlib.Core.Bool.{Bool, true, false}
-use mathlib.Core.List.{List, [], _∷_}
-use native.Mathlib.Decide.{ℕ-discrete}
+use mathlib.Core.Bool.{true}
+use mathlib.Core.List.{List, []}
 use native.Mathlib.Omega.{arith}
-use lib.Dec.{eqb, leb, ltb}
+use lib.Dec.{eqb, leb}
 use lib.ListN.{length, length-set}
-use borrow.Author.Tests.{eq-eqb, ne-eqb, ltb-true, leb-true, le-leb}
-use Rattle.words.specs.Choice.{pick, both}
+use borrow.Author.Tests.{ltb-true, le-leb}
+use Rattle.words.specs.Choice.{pick}
 use Rattle.words.proofs.Choice.{pick-both, pick-true, both-left, both-right, both-true}
 use Rattle.words.proofs.Blocks.{length-fill}
 use Rattle.settings.specs.Sizes.{within, levelCount, question3}
@@ -24,11 +22,10 @@ use Rattle.record.specs.declared.Kind.the-variants.{Idle, Look, Take, Put, Read
 use Rattle.record.specs.declared.Head.{Head}
 use Rattle.record.specs.declared.Move.{Move}
 use Rattle.record.specs.Kinds.{kindNo}
-use Rattle.record.specs.Layout.{Record}
 use Rattle.rules.specs.Steps.{Step, expected, tookNode, tookLevel, withNode, takeNode, withLevel, takeLevel, closed}
 use Rattle.rules.specs.Searching as searching
 use Rattle.rules.specs.Moving as moving
-use Rattle.rules.specs.Acts.{actBy, inner, outer}
+use Rattle.rules.specs.Acts.{actBy}
 use Rattle.rules.specs.Asked.{readsBy, takesLevel, levelLeft, takesNode, nodeLeft}
 
 -- what a step leaves of lengths, sizes and counts

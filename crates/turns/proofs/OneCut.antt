@@ -2,9 +2,8 @@
 -- Relies on the laws of questions of rules and table.
 use Prim.Native.Nat.{ℕ}
 use mathlib.Core.Path.{_≡_, refl, sym, ap, _∙_}
-use mathlib.Core.Logic.{_≢_}
 use mathlib.Core.Bool.{Bool, true, false, not}
-use mathlib.Core.List.{List, [], _∷_}
+use mathlib.Core.List.{[], _∷_}
 use native.Mathlib.Omega.{arith}
 use lib.Dec.{eqb}
 use lib.ListN.{length}
@@ -17,12 +16,12 @@ use Rattle.record.specs.declared.Kind.{Kind}
 use Rattle.record.specs.declared.Kind.the-variants.{Idle}
 use Rattle.record.specs.Kinds.{kindNo, kindOf}
 use Rattle.record.proofs.Numbers.{kind-back}
-use Rattle.record.specs.Layout.{Record, load}
+use Rattle.record.specs.Layout.{Record}
 use Rattle.record.specs.Fits.{fits}
-use Rattle.rules.specs.Acts.{act, actBy}
+use Rattle.rules.specs.Acts.{act}
 use Rattle.rules.specs.Asked.{readsBy, question4, question6, question7, question8, question9}
-use Rattle.rules.specs.Operations.{Result, result, reply, refused, unlessRefused, question2Of, recordOf, memoryOf, taken, full, fullRecord, turn, turnQuestions}
-use Rattle.steps.specs.Tried.{Tried, tried, unlessSix, unlessNine}
+use Rattle.rules.specs.Operations.{refused, unlessRefused, question2Of, recordOf, memoryOf, taken, full, fullRecord, turn, turnQuestions}
+use Rattle.steps.specs.Tried.{unlessSix, unlessNine}
 use Rattle.table.specs.Cut.{firstFour}
 use Rattle.turns.specs.Cut.{triedOf, finished, turnHere}
 

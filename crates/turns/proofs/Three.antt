@@ -1,26 +1,20 @@
 -- Questions 1 to 3 stay answered yes over a turn of any worker.
 -- Relies on what a step leaves of lengths, sizes and counts.
-use Prim.Native.Nat.{ℕ, _*_, _+_, _-_, _/_}
-use mathlib.Core.Path.{_≡_, refl, sym, ap, _∙_}
-use mathlib.Core.Logic.{_≢_}
-use mathlib.Core.Bool.{Bool, true, false}
-use mathlib.Core.List.{List, [], _∷_}
+use Prim.Native.Nat.{ℕ}
+use mathlib.Core.Path.{_≡_, refl, sym, _∙_}
+use mathlib.Core.Bool.{true}
 use native.Mathlib.Decide.{ℕ-discrete}
-use native.Mathlib.Omega.{arith}
-use lib.Dec.{leb}
-use lib.ListN.{length}
-use Rattle.words.specs.Choice.{both, every, asks, firstNo}
+use Rattle.words.specs.Choice.{every}
 use Rattle.words.proofs.Choice.{pick-true, both-left, both-right}
 use Rattle.settings.specs.Sizes.{question1, question2, question3, levelCount}
 use Rattle.settings.specs.declared.Settings.{Settings}
-use Rattle.areas.specs.Memory.{Areas, areas, Memory}
+use Rattle.areas.specs.Memory.{areas}
 use Rattle.record.specs.Layout.{Record, store}
-use Rattle.record.specs.Fits.{fits}
 use Rattle.record.proofs.Records.{length-store}
 use Rattle.rules.specs.Steps.{Step}
-use Rattle.rules.specs.Acts.{act, actBy}
-use Rattle.rules.specs.Asked.{readsBy, takesNode, nodeLeft, question4, question6, question8, question9}
-use Rattle.rules.specs.Operations.{Result, recordOf, memoryOf, question2Of, taken, full, turn, turnQuestions}
+use Rattle.rules.specs.Acts.{act}
+use Rattle.rules.specs.Asked.{question6, question9}
+use Rattle.rules.specs.Operations.{recordOf, memoryOf, question2Of, taken, full, turn, turnQuestions}
 use Rattle.rules.specs.Lists.{State, state, after}
 use Rattle.rules.specs.Refusals.{AllYes}
 use Rattle.rules.proofs.OneTurn.{done-number, nine-is-full, turn-leaves, refuses-turn}

@@ -1,6 +1,6 @@
 -- `export::answer_no` meets its contract.
 -- Relies on the definitions of what the interface gives.
-use Rattle.record.specs.Kinds.{answerNo, answerNode}
+use Rattle.record.specs.Kinds.{answerNo}
 use borrow.Author.Needs.{needs}
 use Rattle.export.proofs.answer_no.Statement.{statement}
 use Rattle.export.proofs.answer_no.Tie as tie

@@ -1,6 +1,6 @@
 -- `export::answer_node` meets its contract.
 -- Relies on the definitions of what the interface gives.
-use Rattle.record.specs.Kinds.{answerNo, answerNode}
+use Rattle.record.specs.Kinds.{answerNode}
 use borrow.Author.Needs.{needs}
 use Rattle.export.proofs.answer_node.Statement.{statement}
 use Rattle.export.proofs.answer_node.Tie as tie

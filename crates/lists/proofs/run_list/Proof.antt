@@ -1,6 +1,6 @@
 -- `lists::run_list` meets its contract.
 -- Relies on the ways through a list of turns.
-use Prim.Native.Nat.{_≤_, _<_, _-_}
+use Prim.Native.Nat.{_≤_, _-_}
 use mathlib.Core.Path.{_≡_}
 use mathlib.Core.Bool.{true}
 use lib.Dec.{ltb}

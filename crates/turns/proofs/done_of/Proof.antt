@@ -1,7 +1,6 @@
 -- `turns::done_of` meets its contract.
 -- Relies on the ways through a turn.
 use Rattle.turns.proofs.Ways.{done-is}
-use borrow.Author.Needs.{needs}
 use Rattle.turns.proofs.done_of.Statement.{statement}
 use Rattle.turns.proofs.done_of.Tie as tie
 
