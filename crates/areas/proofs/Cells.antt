@@ -83,14 +83,6 @@ module _ (w : ℕ) (m : Memory) where
   set-length-levels (Entry g e) v = length-set (m .levels) (levelWords w * g + 2 + e) v
   set-length-levels (Next i) v = refl
 
-  pub set-entry-nodes : (g e v : ℕ) → setCell w m (Entry g e) v .nodes ≡ m .nodes
-  unfolding setCell
-  set-entry-nodes g e v = refl
-
-  pub set-next-levels : (i v : ℕ) → setCell w m (Next i) v .levels ≡ m .levels
-  unfolding setCell
-  set-next-levels i v = refl
-
   pub set-pixel : (x : Cell) (v i : ℕ) → pixelAt (setCell w m x v .nodes) i ≡ pixelAt (m .nodes) i
   unfolding setCell pixelAt
   set-pixel (Entry g e) v i = refl

@@ -79,19 +79,6 @@ answer-rest (suc c) n p q r =
 pub past : {k n : ℕ} → k ≤ n → (n ≡ k → ⊥) → suc k ≤ n
 past h e = omega arith
 
-number-none : 23 ≡ kindNo Unknown
-unfolding kindNo
-number-none = refl
-
--- a number whose kind is known is the number of its kind
-pub number-back : (n : ℕ) → kindNo (kindOf n) ≤ 22 → kindNo (kindOf n) ≡ n
-number-back n h = go (leb n 22) refl
-  where
-    go : (b : Bool) → leb n 22 ≡ b → kindNo (kindOf n) ≡ n
-    go true t = number-known n (leb-true _ _ t)
-    go false t =
-        let e : 23 ≡ kindNo (kindOf n) = number-none ∙ ap kindNo (unknown (leb-false _ _ t)) in absurd (omega arith)
-
 -- a kind's place among the variants is its number
 kind-place : (k : Kind) → tagOf the-type k ≡ kindNo k
 unfolding kindNo

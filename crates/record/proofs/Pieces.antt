@@ -8,13 +8,12 @@ use native.Mathlib.Omega.{arith}
 use lib.ListN.{length, getD}
 use lib.Seq.{sets, length-sets}
 use Rattle.words.specs.Blocks.{cells}
-use Rattle.words.proofs.Blocks.{length-cells, getD-cells, read-back, read-before, below-sets, above-sets, sets-cells}
+use Rattle.words.proofs.Blocks.{getD-cells, read-back, read-before, below-sets, above-sets, sets-cells}
 use Rattle.settings.specs.Sizes.{headWords, moveWords, maxLimit, maxMoves, workerWords}
 use Rattle.record.specs.declared.Head.{Head}
 use Rattle.record.specs.declared.Move.{Move}
-use Rattle.record.specs.Kinds.{kindOf, kindNo}
-use Rattle.record.specs.Layout.{headFrom, headList, workerPlace, movePlace, headAt, movesAt, moveFrom, moveAt, firstMoves, storeHead, moveTo, storeMoves, newMove}
-use Rattle.record.proofs.Numbers.{kind-back, number-back}
+use Rattle.record.specs.Layout.{headFrom, headList, workerPlace, movePlace, moveFrom, moveAt, firstMoves, storeHead, moveTo, storeMoves}
+use Rattle.record.proofs.Numbers.{kind-back}
 use Rattle.record.proofs.Apart.{Outside, before, after, sets-outside, cells-same, room}
 
 pub length-first : (w : ℕ) (l : List ℕ) (i n : ℕ) → length (firstMoves w l i n) ≡ n
@@ -130,21 +129,7 @@ first-same w l l′ i h (suc n) g =
     in
     rw (a, first-same w l l′ i h n (omega arith))
 
-pub first-sized : (w : ℕ) (l : List ℕ) (i n : ℕ) → AllSized (firstMoves w l i n)
-unfolding firstMoves moveAt moveFrom
-first-sized w l i zero = tt
-first-sized w l i (suc n) = (length-cells l (movePlace w i n + 3) maxLimit, first-sized w l i n)
-
--- a Move that has remembered nothing has all its words
-pub new-sized : (home child : ℕ) → length (newMove home child .nodes) ≡ maxLimit
-unfolding newMove
-new-sized home child = refl
-
 -- the head: its ten words are there again
-pub head-length : (h : Head) (m : ℕ) → length (headList h m) ≡ 10
-unfolding headList
-head-length h m = refl
-
 head-eta : (h : Head) (m : ℕ) → headFrom (headList h m) ≡ h
 unfolding headFrom headList
 head-eta h m = simp kind-back
@@ -189,12 +174,3 @@ moves-kept w i l zero = refl
 moves-kept w i l (suc n) =
     let e : moveTo (moveAt w l i n) (movePlace w i (length (firstMoves w l i n))) l ≡ l = rw (length-first w l i n) (move-kept l (movePlace w i n)) in
     ap (λ (v : List ℕ). storeMoves w (firstMoves w l i n) i v) e ∙ moves-kept w i l n
-
-pub head-kept : (w i : ℕ) (l : List ℕ) → kindNo (headAt w l i .kind) ≤ 22 → storeHead w (headAt w l i) (movesAt w l i) i l ≡ l
-unfolding storeHead headAt movesAt headFrom headList cells
-head-kept w i l h =
-    let p : ℕ = workerPlace w i in
-    let a : kindNo (kindOf (getD l p 0)) ≡ getD l p 0 = number-back (getD l p 0) h in
-    let z : getD (cells l p 10) 9 0 ≡ getD l (p + 9) 0 = getD-cells l p 10 9 (omega arith) in
-    let b : headList (headFrom (cells l p 9)) (getD l (p + 9) 0) ≡ cells l p 10 = rw (a, ← z) in
-    ap (λ (v : List ℕ). sets l p v) b ∙ sets-cells l p 10

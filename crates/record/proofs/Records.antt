@@ -17,7 +17,7 @@ use Rattle.record.specs.Kinds.{kinds, kindOf, kindNo}
 use Rattle.record.specs.Layout.{Record, record′, headFrom, headList, workerPlace, headAt, movesAt, firstMoves, load, storeHead, storeMoves, store}
 use Rattle.record.specs.Fits.{fits, fitsBy}
 use Rattle.record.proofs.Apart.{Outside, before, after, cells-same, cells-all, room, apart}
-use Rattle.record.proofs.Pieces.{AllSized, length-first, first-sized, first-same, length-storeMoves, moves-before, moves-outside, moves-back, length-storeHead, head-back, head-outside, head-of, count-of, head-kept, moves-kept}
+use Rattle.record.proofs.Pieces.{AllSized, first-same, length-storeMoves, moves-before, moves-outside, moves-back, length-storeHead, head-back, head-outside, head-of, count-of}
 
 -- a record that a worker's words can hold
 pub record WellFormed (w : ℕ) (r : Record) : Type 0 where
@@ -95,15 +95,6 @@ module _ (w : ℕ) (r : Record) (i j : ℕ) (l : List ℕ) where
   load-other f d g =
       load-same w (store w r i l) l j (λ k h. store-outside w r i l f (workerPlace w j + k) (apart w i j k d h)) g
 
--- a loaded record is one that a worker's words can hold
-pub loaded : (w : ℕ) (l : List ℕ) (i : ℕ) → movesAt w l i ≤ maxMoves w → WellFormed w (load w l i)
-unfolding load
-loaded w l i h =
-    record {
-      sized = first-sized w l i (movesAt w l i);
-      few = rw length-first h;
-    }
-
 -- a record with no Moves is stored by its head alone
 pub store-none : (w : ℕ) (h : Head) (i : ℕ) (l : List ℕ) → store w (record′ h []) i l ≡ storeHead w h 0 i l
 unfolding store storeMoves
@@ -133,8 +124,3 @@ idle-fits w s = refl
 
 pub zero-fits : (w : ℕ) (s : Settings) (l : List ℕ) (i : ℕ) → cells l (workerPlace w i) 10 ≡ replicate 10 0 → fits w s (load w l i) ≡ true
 zero-fits w s l i e = ap (λ (r : Record). fits w s r) (zero-idle w l i e) ∙ idle-fits w s
-
--- writing back what was read changes nothing
-pub store-load : (w : ℕ) (l : List ℕ) (i : ℕ) → kindNo (headAt w l i .kind) ≤ 22 → store w (load w l i) i l ≡ l
-unfolding store load
-store-load w l i h = rw (length-first w l i (movesAt w l i), head-kept w i l h) (moves-kept w i l (movesAt w l i))

@@ -99,12 +99,6 @@ six-is-last w (i ∷ l) (suc n) x (u ∷ before) v rest e h =
     let (r, o) = six-is-last w l _ _ before v rest q h in
     (r, both-true (ap (λ y. not (metSix w y)) (sym p) ∙ goes-on w (visit i x) l n _ before v rest q) o)
 
--- the state after the entries of two lists
-pub end-append : (w : ℕ) (x : State) (vs us : List Visit) → endState w x (vs ++ us) ≡ endState w (endState w x vs) us
-unfolding endState
-end-append w x [] us = refl
-end-append w x (v ∷ vs) us = end-append w (after (turnAt w v)) vs us
-
 -- the state after the last entry is what its turn leaves
 pub end-last : (w : ℕ) (x : State) (before : List Visit) (v : Visit) → endState w x (before ++ v ∷ []) ≡ after (turnAt w v)
 unfolding endState

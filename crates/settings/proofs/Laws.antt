@@ -1,6 +1,6 @@
 -- What a yes to questions 1 to 3 says of the settings' numbers.
 -- Relies on words for tests with parts.
-use mathlib.Core.Path.{_≡_, refl, sym, _∙_}
+use mathlib.Core.Path.{_≡_, refl}
 use mathlib.Core.Bool.{Bool, true, false}
 use Prim.Native.Nat.{ℕ, suc, _≤_, _*_}
 use lib.Dec.{leb}
@@ -57,14 +57,6 @@ module _ (w : ℕ) (s : Settings) (n g k : ℕ) where
         workers = leb-true _ _ (both-right (leb (levelWords w * levelCount w s) g) _ r);
       }
 
-  pub two-yes : openingTwo w s n g k ≡ 0 → (question1 s ≡ true) × (question2 w s n g k ≡ true)
-  unfolding openingTwo firstNo pick
-  two-yes e =
-      let z : _≡_ {A = ℕ} (pick (question1 s) (pick (question2 w s n g k) 0 2) 1) 0 = e in
-      let p : question1 s ≡ true = pick-zero _ _ 0 z in
-      let z₁ : _≡_ {A = ℕ} (pick (question2 w s n g k) 0 2) 0 = simp p at z in
-      (p, pick-zero _ _ 1 z₁)
-
   pub three-yes : firstThree w s n g k ≡ 0 → (question1 s ≡ true) × (question2 w s n g k ≡ true) × (question3 w s ≡ true)
   unfolding firstThree firstNo pick
   three-yes e =
@@ -116,6 +108,3 @@ module _ (s : Settings) (n g k : ℕ) where
       let n₁ : s .«nodes_taken» ≤ s .nodes = leb-true _ _ (both-left _ _ c) in
       let l₁ : Within (s .«levels_taken») (levelCount 3 s) = within-true _ _ (both-right (leb (s .«nodes_taken») (s .nodes)) _ c) in
       record { ranges = r; nodes = omega arith; levels = omega arith }
-
-  pub refused-sized : {q : ℕ} → q ≡ firstThree 3 s n g k → q ≡ 0 → Sized s
-  refused-sized a e = sized (sym a ∙ e)

@@ -3,7 +3,7 @@
 use mathlib.Core.Path.{_≡_, refl, ap, sym, _∙_}
 use mathlib.Core.Bool.{Bool, true, false, not}
 use mathlib.Core.List.{List, [], _∷_}
-use Prim.Native.Nat.{ℕ, zero, suc, _<_}
+use Prim.Native.Nat.{ℕ, zero, suc}
 use native.Mathlib.Omega.{arith}
 use borrow.Author.Tests.{eq-eqb, ne-eqb, eqb-true, eqb-false}
 use lib.Dec.{eqb}
@@ -71,15 +71,6 @@ up-to-take b (x ∷ l) = go (eqb x b) refl (up-to-take b l)
     go : (t : Bool) → eqb x b ≡ t → upTo b l ≡ take (length (upTo b l)) l → upTo b (x ∷ l) ≡ take (length (upTo b (x ∷ l))) (x ∷ l)
     go true e more = simp e
     go false e more = simp e (ap (λ (r : List ℕ). x ∷ r) more)
-
-pub past-shorter : (b : ℕ) (l : List ℕ) → has b l ≡ true → length (past b l) < length l
-unfolding past has pick
-past-shorter b [] h = let z : _≡_ {A = Bool} false true = h in let y : _≡_ {A = ℕ} 0 1 = cc in omega arith
-past-shorter b (x ∷ l) h = go (eqb x b) refl (past-shorter b l)
-  where
-    go : (t : Bool) → eqb x b ≡ t → (has b l ≡ true → length (past b l) < length l) → length (past b (x ∷ l)) < suc (length l)
-    go true e more = simp e (omega arith)
-    go false e more = let i : length (past b l) < length l = more (simp e at h) in simp e (omega arith)
 
 -- the parts by their numbers: each is what lies before the next b, of what lies behind the b before it
 pub part-first : (b : ℕ) (l : List ℕ) → part 0 (split b l) ≡ upTo b l
