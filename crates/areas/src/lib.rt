@@ -114,7 +114,7 @@ pub fn depth_at(levels: &[u32], g: u32) -> u32
     at(levels, level_place(g, 1))
 }
 
-pub fn entry_at(levels: &[u32], g: u32, e: u32) -> u32
+fn entry_at(levels: &[u32], g: u32, e: u32) -> u32
     ensures { λ r. ⌜ r ≡ entryAt 3 (now (levels .entry)) g e ⌝ }
 {
     at(levels, level_place(g, 2 + (e as usize)))

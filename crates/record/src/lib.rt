@@ -115,7 +115,7 @@ pub fn kind_no(k: Kind) -> u32
     }
 }
 
-pub fn kind_of(n: u32) -> Kind
+fn kind_of(n: u32) -> Kind
     ensures { λ r. ⌜ r ≡ kindOf n ⌝ }
 {
     match n {

@@ -197,7 +197,7 @@ pub fn child_of(levels: &[u32], g: u32, t: u32) -> u32
 }
 
 // Whether that level is met, each previous word on the way naming a taken level.
-pub fn back_meets(taken: u32, levels: &[u32], g: u32, t: u32) -> bool
+fn back_meets(taken: u32, levels: &[u32], g: u32, t: u32) -> bool
     ensures { λ r. ⌜ r ≡ backMeets 3 taken (now (levels .entry)) (depths 3 - 1) g t ⌝ }
 {
     let mut at = t;
@@ -217,7 +217,7 @@ pub fn back_meets(taken: u32, levels: &[u32], g: u32, t: u32) -> bool
     false
 }
 
-pub fn level_in_hand(s: Settings, h: Head) -> bool
+fn level_in_hand(s: Settings, h: Head) -> bool
     ensures { λ r. ⌜ r ≡ levelInHand s h ⌝ }
 {
     and(le(1, h.held_level), le(h.held_level, s.levels_taken))
@@ -246,7 +246,7 @@ pub fn tails(s: Settings, h: Head, nodes: &[u32]) -> bool
 }
 
 // A new level's depth is at most 7, and a level is held or left.
-pub fn level_left(s: Settings, h: Head, levels: &[u32]) -> bool
+fn level_left(s: Settings, h: Head, levels: &[u32]) -> bool
     requires { ⌜ Sized s ⌝ }
     ensures { λ r. ⌜ r ≡ levelLeft 3 s h (now (levels .entry)) ⌝ }
 {

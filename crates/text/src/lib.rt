@@ -96,7 +96,7 @@ fn leads(s: &[u8]) -> bool
 }
 
 // A field is a number: 1 to 4 digits, no leading zero except 0.
-pub fn is_number(s: &[u8]) -> bool
+fn is_number(s: &[u8]) -> bool
     ensures { λ r. ⌜ r ≡ isNumber (now (s .entry)) ⌝ }
 {
     let n = s.len();
@@ -111,7 +111,7 @@ fn digit(b: u8) -> u32
 }
 
 // The number of a field that is one.
-pub fn number_of(s: &[u8]) -> u32
+fn number_of(s: &[u8]) -> u32
     requires { ⌜ isNumber (now s) ≡ true ⌝ }
     ensures { λ r. ⌜ (r ≡ numberOf (now (s .entry))) × (r ≤ 9999) ⌝ }
 {
