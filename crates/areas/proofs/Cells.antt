@@ -1,5 +1,5 @@
 -- Cells over any digit width: a written cell reads as the word, another cell is not changed, nor are pixel numbers, previous levels, depths.
--- Relies on nothing.
+-- Relies on words for digits, on settings for sizes.
 use mathlib.Core.Path.{_≡_, refl, ap, sym, _∙_}
 use mathlib.Core.Logic.{_≢_}
 use Prim.Native.Nat.{ℕ, _+_, _*_, _/_, _%_, _<_}

@@ -1,5 +1,5 @@
 -- The ways through the functions of areas, one law for each: from what the calls give to what the function ensures.
--- Relies on nothing.
+-- Relies on words for digits and blocks, on settings for sizes.
 use mathlib.Core.Path.{_≡_}
 use mathlib.Core.Bool.{Bool, true, false}
 use mathlib.Core.List.{List}

@@ -1,3 +1,3 @@
 -- The definitions of areas.
--- Relies on nothing.
+-- Relies on words for digits and blocks, on settings for sizes.
 pub mod Memory

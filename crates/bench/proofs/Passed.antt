@@ -1,5 +1,5 @@
 -- Every row of the table of bench cases passes: one computed test over all rows, and from it the rule at each row.
--- Relies on the table alone.
+-- Relies on the table, and on words for a test at each element.
 use mathlib.Core.Path.{_≡_, refl}
 use mathlib.Core.Bool.{true}
 use mathlib.Core.List.{List·Memᴰ}

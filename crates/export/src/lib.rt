@@ -1,5 +1,5 @@
 // The C interface: the public operations with their answers as numbers. include/leafdrum.h declares it; nothing checks that header.
-// Relies on table, turns and lists for the operations.
+// Relies on table and lists for the operations.
 ghost use mathlib.Core.Path.{_≡_};
 ghost use Rattle.areas.specs.Memory.{areas};
 ghost use Rattle.record.specs.Kinds.{answerNo, answerNode};

@@ -1,5 +1,5 @@
 -- The ways through the parts of a moving turn, in the code, over any width, cell, kinds and count.
--- Relies on the mirrors of the code alone.
+-- Relies on the mirrors of the code, on rules for what a step does.
 use mathlib.Core.Path.{_≡_}
 use mathlib.Core.Bool.{true, false}
 use mathlib.Core.List.{List}

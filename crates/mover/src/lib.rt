@@ -1,5 +1,4 @@
-// A moving worker: its head, of its innermost Move what a turn needs, and the last node of the Move around that, by value, with a method for
-// each moving kind of turn.
+// A moving worker by value: its head, of its innermost Move what a turn needs, the last node of the Move around that; a method for each moving kind.
 // Relies on steps for what searching and moving do alike, on rules for the definitions.
 ghost use mathlib.Core.Path.{_≡_};
 ghost use mathlib.Core.List.{_∷_};

@@ -1,5 +1,5 @@
 -- What the program prints, as bytes.
--- Relies on the bytes of a word.
+-- Relies on text for the bytes of a word.
 use Prim.Native.Nat.{ℕ, zero, suc, _+_, _/_, _%_}
 use mathlib.Core.List.{List, [], _∷_, _++_}
 use lib.Dec.{ltb}

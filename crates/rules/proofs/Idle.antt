@@ -1,5 +1,5 @@
 -- A worker whose record has a call open is not idle.
--- Relies on what a record shows and on the kinds by number.
+-- Relies on what a record shows.
 use Prim.Native.Nat.{ℕ}
 use mathlib.Core.Path.{_≡_, ap}
 use mathlib.Core.Logic.{_≢_}

@@ -1,5 +1,5 @@
 -- The ways through one line: a start, a turn, a line that does not read, and the first line.
--- Relies on nothing.
+-- Relies on rules for the operations, on text for what a line asks for.
 use mathlib.Core.Path.{_≡_, refl}
 use mathlib.Core.Bool.{true, false}
 use mathlib.Core.List.{List, [], _∷_}

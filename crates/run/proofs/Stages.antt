@@ -1,5 +1,5 @@
 -- The ways through a stage of the run: what is told next leaves the rest of what is to be printed.
--- Relies on the parts of a text, and on the ways through one line.
+-- Relies on the laws of the parts of a text, and on the definition of the run.
 use mathlib.Core.Path.{_≡_, refl, sym, ap, subst, _∙_}
 use mathlib.Core.Bool.{Bool, true, false}
 use mathlib.Core.List.{List, [], _∷_}

@@ -1,5 +1,5 @@
 // The run of the text program: one line carried out, and what is to be printed next.
-// Relies on text for lines, table and turns for the operations.
+// Relies on text for lines, on table and lists for the operations, on printing for what is printed.
 ghost use mathlib.Core.Path.{_≡_};
 ghost use mathlib.Core.List.{List};
 ghost use Prim.Native.Nat.{ℕ, _+_, _≤_};

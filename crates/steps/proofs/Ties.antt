@@ -1,5 +1,5 @@
 -- The code's cut of Level and Close is the step that the definitions say, over any width.
--- Relies on nothing.
+-- Relies on words for the choice by a test, on rules for the steps.
 use mathlib.Core.Path.{_≡_, refl}
 use mathlib.Core.Bool.{Bool, true, false}
 use mathlib.Core.List.{List, _∷_}

@@ -1,5 +1,5 @@
 -- The ways through an opening.
--- Relies on nothing.
+-- Relies on settings for questions 1 and 2, on rules for the opening.
 use mathlib.Core.Path.{_≡_, refl}
 use mathlib.Core.List.{List}
 use Prim.Native.Nat.{ℕ, _+_, _*_}

@@ -1,5 +1,5 @@
 -- The parts of a text are cut off one after the other, at the first byte b.
--- Relies on nothing.
+-- Relies on words for the choice by a test.
 use mathlib.Core.Path.{_≡_, refl, ap, sym, _∙_}
 use mathlib.Core.Bool.{Bool, true, false, not}
 use mathlib.Core.List.{List, [], _∷_}

@@ -1,5 +1,5 @@
 -- Parts of a text as the code finds them, by the first byte b. They follow the code's cut and are tied to the parts by lemmas.
--- Relies on nothing.
+-- Relies on words for the choice by a test.
 use Prim.Native.Nat.{ℕ}
 use mathlib.Core.Bool.{Bool, true, false}
 use mathlib.Core.List.{List, [], _∷_}

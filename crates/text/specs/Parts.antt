@@ -1,5 +1,5 @@
 -- The parts of a text: lines end in byte 10, fields are parted by commas.
--- Relies on nothing.
+-- Relies on words for the choice by a test.
 use Prim.Native.Nat.{ℕ, zero, suc}
 use Prim.Native.Char.{code}
 use Prim.Native.String.{String, [] as none, _∷_ as _then_}

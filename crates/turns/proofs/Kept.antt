@@ -1,5 +1,5 @@
 -- Questions 1 to 3 are answered yes after a turn where they were before it: lengths and sizes stay, the counts stay in range.
--- Relies on the definitions of the turns and on demand 1 of a turn.
+-- Relies on the definitions of the turns, on words and areas for lengths.
 use Prim.Native.Nat.{ℕ, _+_, _<_}
 use mathlib.Core.Path.{_≡_, refl, sym, ap, _∙_}
 use mathlib.Core.Bool.{true}

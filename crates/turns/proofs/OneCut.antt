@@ -1,5 +1,5 @@
 -- A turn in the code's parts is the turn that document 01 defines.
--- Relies on the laws of questions of rules and table.
+-- Relies on rules and table for the questions, on record for the number of a kind.
 use Prim.Native.Nat.{ℕ}
 use mathlib.Core.Path.{_≡_, refl, sym, ap, _∙_}
 use mathlib.Core.Bool.{Bool, true, false, not}

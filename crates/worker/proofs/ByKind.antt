@@ -1,5 +1,5 @@
 -- A turn of a search in the code's cut is the turn that the definitions say, over any width: question 6, question 9, else what the kind does.
--- Relies on nothing.
+-- Relies on rules for the questions and the turns, on steps for what a method gives.
 use mathlib.Core.Path.{_≡_, refl}
 use mathlib.Core.Bool.{true}
 use mathlib.Core.List.{[]}

@@ -1,5 +1,5 @@
 -- `export::answer_no` meets its contract.
--- Relies on the definitions of what the interface gives.
+-- Relies on record for the answers' numbers.
 use Rattle.record.specs.Kinds.{answerNo}
 use borrow.Author.Needs.{needs}
 use Rattle.export.proofs.answer_no.Statement.{statement}

@@ -1,5 +1,5 @@
 -- `export::leafdrum_level_count` meets its contract.
--- Relies on the definitions of what the interface gives.
+-- Relies on Exported, on settings for what a yes to question 1 says.
 use Rattle.words.proofs.Choice.{via}
 use Rattle.settings.proofs.Laws.{ranges}
 use Rattle.export.proofs.Exported.{count-in, count-out}

@@ -1,5 +1,5 @@
 -- `export::leafdrum_start` meets its contract.
--- Relies on the definitions of what the interface gives.
+-- Relies on Exported.
 use Rattle.export.proofs.Exported.{export-steps}
 use borrow.Author.Needs.{needs}
 use Rattle.export.proofs.leafdrum_start.Statement.{statement}

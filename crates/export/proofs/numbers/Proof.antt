@@ -1,5 +1,5 @@
 -- `export::numbers` meets its contract.
--- Relies on the definitions of what the interface gives.
+-- Relies on Exported.
 use Rattle.export.proofs.Exported.{numbers-steps}
 use borrow.Author.Needs.{needs}
 use Rattle.export.proofs.numbers.Statement.{statement}

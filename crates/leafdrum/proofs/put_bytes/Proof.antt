@@ -1,5 +1,5 @@
 -- `leafdrum::put_bytes` meets its contract.
--- Relies on text: what is printed at once is short.
+-- Relies on printing: what is printed at once is short.
 use mathlib.Core.Path.{sym, ap, _∙_}
 use native.Mathlib.Omega.{arith}
 use lib.ListN.{length}

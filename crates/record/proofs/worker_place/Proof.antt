@@ -1,5 +1,5 @@
 -- `record::worker_place` meets its contract.
--- Relies on nothing.
+-- Relies on words for the digits, on settings for sizes.
 use Rattle.record.specs.Layout.{workerPlace}
 use Rattle.settings.specs.Sizes.{workerWords, maxMoves}
 use Rattle.words.specs.Digits.{depths}

@@ -1,5 +1,5 @@
 -- `run::start_prints` meets its contract.
--- Relies on nothing.
+-- Relies on words for tests.
 use Rattle.words.specs.Choice.{pick}
 use Rattle.words.proofs.Auto.{tests}
 use Rattle.run.proofs.start_prints.Statement.{statement}

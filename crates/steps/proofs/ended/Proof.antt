@@ -1,5 +1,5 @@
 -- `steps::ended` meets its contract.
--- Relies on nothing.
+-- Relies on rules for the definition.
 use Rattle.rules.specs.Heads.{to, ended}
 use borrow.Author.Needs.{needs}
 use Rattle.steps.proofs.ended.Statement.{statement}

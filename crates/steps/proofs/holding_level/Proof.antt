@@ -1,5 +1,5 @@
 -- `steps::holding_level` meets its contract.
--- Relies on nothing.
+-- Relies on rules for the definition.
 use Rattle.rules.specs.Heads.{to, holdingLevel}
 use borrow.Author.Needs.{needs}
 use Rattle.steps.proofs.holding_level.Statement.{statement}

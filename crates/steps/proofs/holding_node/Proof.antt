@@ -1,5 +1,5 @@
 -- `steps::holding_node` meets its contract.
--- Relies on nothing.
+-- Relies on rules for the definition.
 use Rattle.rules.specs.Heads.{to, holdingNode}
 use borrow.Author.Needs.{needs}
 use Rattle.steps.proofs.holding_node.Statement.{statement}

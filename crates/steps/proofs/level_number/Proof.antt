@@ -1,5 +1,5 @@
 -- `steps::level_number` meets its contract.
--- Relies on nothing.
+-- Relies on words for tests.
 use Rattle.words.specs.Choice.{pick}
 use Rattle.words.proofs.Auto.{tests}
 use Rattle.steps.specs.Cut.{levelNo}

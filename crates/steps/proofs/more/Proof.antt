@@ -1,5 +1,5 @@
 -- `steps::more` meets its contract.
--- Relies on nothing.
+-- Relies on words for tests, on rules for the definition.
 use Rattle.words.proofs.Auto.{tests}
 use Rattle.words.specs.Choice.{pick}
 use Rattle.rules.specs.Steps.{more}

@@ -1,5 +1,5 @@
 -- `steps::to` meets its contract.
--- Relies on nothing.
+-- Relies on rules for the definition.
 use Rattle.rules.specs.Heads.{to}
 use borrow.Author.Needs.{needs}
 use Rattle.steps.proofs.to.Statement.{statement}

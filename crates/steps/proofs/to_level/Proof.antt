@@ -1,5 +1,5 @@
 -- `steps::to_level` meets its contract.
--- Relies on nothing.
+-- Relies on rules for the definition.
 use Rattle.rules.specs.Heads.{to, toLevel}
 use borrow.Author.Needs.{needs}
 use Rattle.steps.proofs.to_level.Statement.{statement}

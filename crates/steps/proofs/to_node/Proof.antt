@@ -1,5 +1,5 @@
 -- `steps::to_node` meets its contract.
--- Relies on nothing.
+-- Relies on rules for the definition.
 use Rattle.rules.specs.Heads.{to, toNode}
 use borrow.Author.Needs.{needs}
 use Rattle.steps.proofs.to_node.Statement.{statement}

@@ -1,5 +1,5 @@
 -- `steps::took_level` meets its contract.
--- Relies on nothing.
+-- Relies on rules for the definition.
 use Rattle.rules.specs.Steps.{tookLevel}
 use borrow.Author.Needs.{needs}
 use Rattle.steps.proofs.took_level.Statement.{statement}

@@ -1,5 +1,5 @@
 -- `steps::took_node` meets its contract.
--- Relies on nothing.
+-- Relies on rules for the definition.
 use Rattle.rules.specs.Steps.{tookNode}
 use borrow.Author.Needs.{needs}
 use Rattle.steps.proofs.took_node.Statement.{statement}

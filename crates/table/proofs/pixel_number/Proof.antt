@@ -1,5 +1,5 @@
 -- `table::pixel_number` meets its contract.
--- Relies on nothing.
+-- Relies on words for the digits.
 use Rattle.words.specs.Digits.{pixelNumber}
 use borrow.Author.Needs.{needs}
 use Rattle.table.proofs.pixel_number.Statement.{statement}

@@ -1,5 +1,5 @@
 -- `table::six_or_seven` meets its contract.
--- Relies on nothing.
+-- Relies on words for tests.
 use Rattle.words.specs.Choice.{pick}
 use Rattle.words.proofs.Auto.{tests}
 use Rattle.table.proofs.six_or_seven.Statement.{statement}

@@ -1,5 +1,5 @@
 -- `table::started` meets its contract.
--- Relies on nothing.
+-- Relies on rules for the definition.
 use mathlib.Core.Path.{refl}
 use Rattle.rules.specs.Heads.{started}
 use Rattle.table.proofs.started.Statement.{statement}

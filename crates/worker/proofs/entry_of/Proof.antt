@@ -1,5 +1,5 @@
 -- `worker::entry_of` meets its contract.
--- Relies on nothing.
+-- Relies on rules for the definition.
 use Rattle.rules.specs.Searching.{entryOf}
 use borrow.Author.Needs.{needs}
 use Rattle.worker.proofs.entry_of.Statement.{statement}

@@ -1,5 +1,5 @@
 -- `worker::new_level` meets its contract.
--- Relies on Steps.
+-- Relies on Steps, on the laws of steps.
 use Rattle.steps.proofs.Steps.{taken-fits}
 use Rattle.worker.proofs.Steps.{level-there}
 use borrow.Author.Needs.{needs}

@@ -1,5 +1,5 @@
 -- `mover::Mover::chain_heads` meets its contract.
--- Relies on Asked.
+-- Relies on steps.
 use Rattle.steps.proofs.Asked.{ask-both}
 use borrow.Author.Needs.{needs}
 use Rattle.mover.proofs.Mover.chain_heads.Statement.{statement}

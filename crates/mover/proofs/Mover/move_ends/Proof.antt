@@ -1,5 +1,5 @@
 -- `mover::Mover::move_ends` meets its contract.
--- Relies on Asked.
+-- Relies on steps.
 use Rattle.mover.specs.Cut.{moveEndsCut}
 use Rattle.steps.proofs.Asked.{ask-both}
 use borrow.Author.Needs.{needs}

@@ -1,5 +1,5 @@
 -- `mover::Mover::set_closes` meets its contract.
--- Relies on Asked.
+-- Relies on steps.
 use Rattle.mover.specs.Cut.{setClosesCut}
 use Rattle.steps.proofs.Asked.{ask-both}
 use borrow.Author.Needs.{needs}

@@ -1,5 +1,5 @@
 -- `mover::Mover::set_level` meets its contract.
--- Relies on Bounds, on Turns.
+-- Relies on Bounds, on Turns, on the laws of steps.
 use Rattle.mover.proofs.Bounds.{counts-refused, counts-stay, most-refused, most-stay}
 use Rattle.mover.proofs.Turns.{level-is, six-no, six-yes}
 use Rattle.rules.specs.Moving.{setLevel}

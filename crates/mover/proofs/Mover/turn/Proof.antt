@@ -1,5 +1,5 @@
 -- `mover::Mover::turn` meets its contract.
--- Relies on Turns.
+-- Relies on Turns, on record for a kind known among several.
 use Rattle.mover.proofs.Turns.{turn-kind, turn-other}
 use Rattle.mover.specs.Cut.{isMoving}
 use Rattle.record.proofs.Numbers.{kind-among}

@@ -1,5 +1,5 @@
 -- `worker::Worker::take_tail` meets its contract.
--- Relies on nothing.
+-- Relies on rules for the definition.
 use Rattle.rules.specs.Searching.{takeTail}
 use borrow.Author.Needs.{needs}
 use Rattle.worker.proofs.Worker.take_tail.Statement.{statement}
