@@ -1,5 +1,5 @@
--- What a method for a kind of turn hands back, as a number and what is left with it.
--- Relies on steps for the number and what is left, on rules for the steps.
+-- What a method for a kind of turn hands back, as a number and what is left with it. This follows the code's cut and is tied to the definitions
+-- by lemmas; a reader need not believe it. Relies on steps for the number and what is left, on rules for the steps.
 use Prim.Native.Nat.{ℕ}
 use mathlib.Core.List.{[]}
 use Rattle.settings.specs.declared.Settings.{Settings}
