@@ -62,7 +62,7 @@ pub record Agrees (w : ℕ) (n : ℕ) (x : State) (vs : List Visit) (u : Run) : 
   pub done-is : turnsDone w vs + u .left ≡ n
 
 -- the worker of a turn that has neither 6 nor 8 has a call open, questions 1 to 4 being answered yes
-open-8 : (w : ℕ) {crew : ℕ} (x : State) (i : ℕ) → Three w crew x → question4 (x .settings) i ≡ true → turn w (x .settings) i (x .areas) .reply .number ≢ 6 → turn w (x .settings) i (x .areas) .reply .number ≢ 8 → question8 (recordOf w (x .areas) i) ≡ true
+open-8 : (w : ℕ) {workers : ℕ} (x : State) (i : ℕ) → Three w workers x → question4 (x .settings) i ≡ true → turn w (x .settings) i (x .areas) .reply .number ≢ 6 → turn w (x .settings) i (x .areas) .reply .number ≢ 8 → question8 (recordOf w (x .areas) i) ≡ true
 unfolding turnQuestions
 open-8 w x i y q h g = by (question6 w (x .settings) (recordOf w (x .areas) i) (memoryOf (x .areas))) refl (question8 (recordOf w (x .areas) i)) refl
   where
@@ -161,7 +161,7 @@ ran-step : (w i : ℕ) (l : List ℕ) (u v : Run) → ranEntry w u i ≡ v → r
 unfolding ranList
 ran-step w i l u v e = ap (ranList w l) e
 
-agrees-step : (w : ℕ) {crew : ℕ} (i n : ℕ) (l : List ℕ) (x : State) → Three w crew x → question4 (x .settings) i ≡ true → Agrees w (suc n) x (visits w l (suc n) x) (ranList w l (run 0 x (suc n))) → Agrees w n (after (turn w (x .settings) i (x .areas))) (visits w l n (after (turn w (x .settings) i (x .areas)))) (ranList w l (run 0 (after (turn w (x .settings) i (x .areas))) n)) → Agrees w (suc n) x (visits w (i ∷ l) (suc n) x) (ranList w (i ∷ l) (run 0 x (suc n)))
+agrees-step : (w : ℕ) {workers : ℕ} (i n : ℕ) (l : List ℕ) (x : State) → Three w workers x → question4 (x .settings) i ≡ true → Agrees w (suc n) x (visits w l (suc n) x) (ranList w l (run 0 x (suc n))) → Agrees w n (after (turn w (x .settings) i (x .areas))) (visits w l n (after (turn w (x .settings) i (x .areas)))) (ranList w l (run 0 (after (turn w (x .settings) i (x .areas))) n)) → Agrees w (suc n) x (visits w (i ∷ l) (suc n) x) (ranList w (i ∷ l) (run 0 x (suc n)))
 agrees-step w i n l x y q skipped done = by (ℕ-discrete (turn w (x .settings) i (x .areas) .reply .number) 6) (ℕ-discrete (turn w (x .settings) i (x .areas) .reply .number) 8)
   where
     by : Dec (turn w (x .settings) i (x .areas) .reply .number ≡ 6) → Dec (turn w (x .settings) i (x .areas) .reply .number ≡ 8) → Agrees w (suc n) x (visits w (i ∷ l) (suc n) x) (ranList w (i ∷ l) (run 0 x (suc n)))
@@ -175,17 +175,17 @@ agrees-step w i n l x y q skipped done = by (ℕ-discrete (turn w (x .settings) 
         rw (visits-other w i n l x h g, ran-step w i l (run 0 x (suc n)) (run 0 (after (turn w (x .settings) i (x .areas))) n) (entry-other w i n x h g))
         (agrees-more w i n l x n (suc n) 1 (omega arith) (no-six w i x h) (counts-one w i x (open-8 w x i y q h g) h) done)
 
-below-crew : {w crew : ℕ} {x : State} (i : ℕ) → Three w crew x → ltb i crew ≡ true → question4 (x .settings) i ≡ true
+below-workers : {w workers : ℕ} {x : State} (i : ℕ) → Three w workers x → ltb i workers ≡ true → question4 (x .settings) i ≡ true
 unfolding question4
-below-crew i y e = rw (y .crew-is) e
+below-workers i y e = rw (y .workers-is) e
 
 -- the code's end of a list agrees with the entries reached
-pub agrees : (w : ℕ) {crew : ℕ} (l : List ℕ) (n : ℕ) (x : State) → Three w crew x → every (λ i. ltb i crew) l ≡ true → Agrees w n x (visits w l n x) (ranList w l (run 0 x n))
+pub agrees : (w : ℕ) {workers : ℕ} (l : List ℕ) (n : ℕ) (x : State) → Three w workers x → every (λ i. ltb i workers) l ≡ true → Agrees w n x (visits w l n x) (ranList w l (run 0 x n))
 unfolding every
 agrees w [] n x y q = agrees-none w n x
 agrees w (i ∷ l) zero x y q = agrees-zero w i l x
-agrees w {crew} (i ∷ l) (suc n) x y q =
-    agrees-step w i n l x y (below-crew i y (both-left _ _ q))
+agrees w {workers} (i ∷ l) (suc n) x y q =
+    agrees-step w i n l x y (below-workers i y (both-left _ _ q))
     (agrees w l (suc n) x y (both-right _ _ q))
     (agrees w l n (after (turn w (x .settings) i (x .areas))) (three-stays w x i y) (both-right _ _ q))
 
@@ -193,7 +193,7 @@ agrees w {crew} (i ∷ l) (suc n) x y q =
 pub list-cut : (w : ℕ) (s : Settings) (l : List ℕ) (limit : ℕ) (a : Areas) → question1 s ≡ true → question2Of w s a ≡ true → question3 w s ≡ true → question4All s l ≡ true → ranResult limit (ranList w l (run 0 (state s a) limit)) ≡ turnsResult w (state s a) (visits w l limit (state s a))
 unfolding ranResult turnsResult question4All question4
 list-cut w s l limit a y₁ y₂ y₃ y₄ =
-    let e = agrees w l limit (state s a) (record { crew-is = refl; one = y₁; two = y₂; three = y₃ }) y₄ in
+    let e = agrees w l limit (state s a) (record { workers-is = refl; one = y₁; two = y₂; three = y₃ }) y₄ in
     let d = e .done-is in
     let k : limit - ranList w l (run 0 (state s a) limit) .left ≡ turnsDone w (visits w l limit (state s a)) = omega arith in
     rw (k, ← e .number-is, ← e .state-is) refl

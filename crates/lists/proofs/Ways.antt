@@ -37,7 +37,7 @@ use Rattle.turns.proofs.Three.{Three, three-stays, SameSizes, sizes-stay}
 use Rattle.lists.proofs.ListCut.{stopped, refused-on, eight-idle, list-cut}
 
 -- questions 1 to 3 as the code asks them
-pub of-three : (w : ℕ) (s : Settings) (n g k : List ℕ) {crew : ℕ} → Three w crew (state s (areas n g k)) → firstThree w s (length n) (length g) (length k) ≡ 0
+pub of-three : (w : ℕ) (s : Settings) (n g k : List ℕ) {workers : ℕ} → Three w workers (state s (areas n g k)) → firstThree w s (length n) (length g) (length k) ≡ 0
 unfolding firstThree firstNo pick
 of-three w s n g k y = simp (y .one, y .two, y .three)
 
@@ -191,17 +191,17 @@ module _ (s : Settings) (t : Tally) (i n g k : ℕ) where
   entry-inside f h = three-inside (countedBy s t) i n g k f h
 
 -- an entry leaves questions 1 to 3 answered yes
-ran-keeps : (w : ℕ) {crew : ℕ} (u : Run) (i : ℕ) → Three w crew (u .state′) → Three w crew (ranEntry w u i .state′)
+ran-keeps : (w : ℕ) {workers : ℕ} (u : Run) (i : ℕ) → Three w workers (u .state′) → Three w workers (ranEntry w u i .state′)
 unfolding ranEntry ranBy
-ran-keeps w {crew} u i y =
-    pick-both (λ (v : Run). Three w crew (v .state′)) _
+ran-keeps w {workers} u i y =
+    pick-both (λ (v : Run). Three w workers (v .state′)) _
     (λ e. y)
-    (λ e. pick-both (λ (v : Run). Three w crew (v .state′)) _
-    (λ f. pick-both (λ (v : Run). Three w crew (v .state′)) _ (λ p. y) (λ p. pick-both (λ (v : Run). Three w crew (v .state′)) _ (λ q. y) (λ q. three-stays w (u .state′) i y)))
+    (λ e. pick-both (λ (v : Run). Three w workers (v .state′)) _
+    (λ f. pick-both (λ (v : Run). Three w workers (v .state′)) _ (λ p. y) (λ p. pick-both (λ (v : Run). Three w workers (v .state′)) _ (λ q. y) (λ q. three-stays w (u .state′) i y)))
     (λ f. y))
 
-pub entry-keeps : (w : ℕ) {crew : ℕ} (s : Settings) (t u : Tally) (i : ℕ) (a b : Areas) → ranOf s u b ≡ ranEntry w (ranOf s t a) i → Three w crew (state (countedBy s t) a) → Three w crew (state (countedBy s u) b)
-entry-keeps w {crew} s t u i a b e y = subst (λ (v : Run). Three w crew (v .state′)) (sym e) (ran-keeps w (ranOf s t a) i y)
+pub entry-keeps : (w : ℕ) {workers : ℕ} (s : Settings) (t u : Tally) (i : ℕ) (a b : Areas) → ranOf s u b ≡ ranEntry w (ranOf s t a) i → Three w workers (state (countedBy s t) a) → Three w workers (state (countedBy s u) b)
+entry-keeps w {workers} s t u i a b e y = subst (λ (v : Run). Three w workers (v .state′)) (sym e) (ran-keeps w (ranOf s t a) i y)
 
 -- the entries of a list
 pub list-more : (w : ℕ) (l : List ℕ) (k : ℕ) (u : Run) {i : ℕ} {v x : Run} → v ≡ ranEntry w u i → i ≡ getD l k 0 → ranList w (drop k l) u ≡ x → k < length l → ranList w (drop (k + 1) l) v ≡ x

@@ -61,29 +61,29 @@ fresh-levels =
     by g e (no z) = omega (arith, z)
 
 -- no level but the root is counted, and no worker holds one
-none-held : (crew : ℕ) → sum crew (holding (λ i. theory.fresh)) ≡ 0
+none-held : (workers : ℕ) → sum workers (holding (λ i. theory.fresh)) ≡ 0
 unfolding holding
-none-held crew = sum-zero crew (holding (λ i. theory.fresh)) (λ i. omega arith)
+none-held workers = sum-zero workers (holding (λ i. theory.fresh)) (λ i. omega arith)
 
 counted : {δ : Dims} (W : World δ) → Counted W (λ d. []) (λ d. 0)
 counted {δ} W = record { once = λ d. tt; placed = λ d n i. absurd (List·Memᴰ·not-nil i); under = λ d n i. absurd (List·Memᴰ·not-nil i); sizes = λ d. omega arith }
 
-levels : {δ : Dims} (W : World δ) (crew : ℕ) → Levels W (λ i. theory.fresh) crew 1
-levels {δ} W crew =
-    let z = none-held crew in
+levels : {δ : Dims} (W : World δ) (workers : ℕ) → Levels W (λ i. theory.fresh) workers 1
+levels {δ} W workers =
+    let z = none-held workers in
     let y = sum-zero (δ .depths - 1) (λ d. 0) (λ d. refl) in
     record { covered = λ d. []; count = λ d. 0; counted = counted W; total = omega arith }
 
 -- the workers' words are zeros
-zero-record : (w : ℕ) (l : List ℕ) (crew i : ℕ) → i < crew → workerWords w * crew ≤ length l → load w (fill l 0 (workerWords w * crew) 0) i ≡ idle
+zero-record : (w : ℕ) (l : List ℕ) (workers i : ℕ) → i < workers → workerWords w * workers ≤ length l → load w (fill l 0 (workerWords w * workers) 0) i ≡ idle
 unfolding workerPlace
-zero-record w l crew i h r =
-    zero-words w (fill l 0 (workerWords w * crew) 0) i
+zero-record w l workers i h r =
+    zero-words w (fill l 0 (workerWords w * workers) 0) i
     (λ k q.
     let p = place-next w h in
     let b = word-room w in
-    let e : workerWords w * i + k < workerWords w * crew = omega arith in
-    rw zero-add at (fill-in (workerWords w * crew) l 0 0 (workerWords w * i + k) e (omega arith)))
+    let e : workerWords w * i + k < workerWords w * workers = omega arith in
+    rw zero-add at (fill-in (workerWords w * workers) l 0 0 (workerWords w * i + k) e (omega arith)))
 
 module _ {w : ℕ} (width : Width w) (s : Settings) (a : Areas) (y : question1 s ≡ true) (r : question2 w s (length (a .nodes)) (length (a .levels)) (length (a .workers)) ≡ true) where
   -- the world: what the words held before stays in its functions wherever the opening did not write

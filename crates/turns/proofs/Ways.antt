@@ -36,7 +36,7 @@ use Rattle.turns.proofs.Three.{Three}
 
 -- questions 1 to 3 as the code asks them
 pub three-of : (w : ℕ) (s : Settings) (n g k : List ℕ) → firstThree w s (length n) (length g) (length k) ≡ 0 → Three w (s .workers) (state s (areas n g k))
-three-of w s n g k e = let y = three-yes w s (length n) (length g) (length k) e in record { crew-is = refl; one = y .0; two = y .1; three = y .2 }
+three-of w s n g k e = let y = three-yes w s (length n) (length g) (length k) e in record { workers-is = refl; one = y .0; two = y .1; three = y .2 }
 
 -- a record that fits with a searching kind has no Moves
 no-moves : (w : ℕ) (s : Settings) (l : List ℕ) (i : ℕ) → fits w s (load w l i) ≡ true → 1 ≤ kindNo (headAt w l i .kind) → kindNo (headAt w l i .kind) ≤ 10 → load w l i ≡ record′ (headAt w l i) []
