@@ -28,7 +28,7 @@ use Rattle.rules.specs.Operations.{Result, result, reply, refused, unlessRefuse
 use Rattle.rules.specs.Lists.{State, state, turns, turnsResult, visits, listQuestions}
 use Rattle.rules.proofs.OneTurn.{six-leaves}
 use Rattle.table.specs.Cut.{firstFour}
-use Rattle.turns.specs.Cut.{turnHere, idleReply, doneOf, Did, did, didBy, didHere}
+use Rattle.turns.specs.Cut.{turnHere, doneOf, Did, did, didBy, didHere}
 use Rattle.turns.specs.declared.Done.{Done}
 use Rattle.turns.proofs.Ways.{three-of, three-inside, here-idle, here-turn}
 use Rattle.lists.specs.declared.Tally.{Tally}
@@ -126,16 +126,16 @@ module _ (w : ℕ) (s : Settings) (t : Tally) (i : ℕ) (n g k : List ℕ) (z : 
 
   -- an idle worker
   pub entry-idle : {u : Tally} {b : Bool} {v : ℕ} → u ≡ idleTally t v → v ≡ headAt w k i .answer → b ≡ eqb (kindNo (headAt w k i .kind)) 0 → b ≡ true → ranOf s u (areas n g k) ≡ ranEntry w (ranOf s t (areas n g k)) i
-  unfolding idleTally idleReply ranBy
-  entry-idle {u} {b} {v} f e q y = by (leb v 3) refl (here-idle w now i n g k refl e q y ∙ turn-is)
+  unfolding idleTally ranBy
+  entry-idle {u} {b} {v} f e q y = by (leb v 3) refl (sym (here-idle w now i n g k e q y) ∙ turn-is)
     where
-      by : (d : Bool) → leb v 3 ≡ d → result (idleReply now v) (areas n g k) ≡ its → ranOf s u (areas n g k) ≡ ranEntry w (ranOf s t (areas n g k)) i
+      by : (d : Bool) → leb v 3 ≡ d → pick (leb v 3) (refused 8 now (areas n g k)) (refused 6 now (areas n g k)) ≡ its → ranOf s u (areas n g k) ≡ ranEntry w (ranOf s t (areas n g k)) i
       by true d x =
-          let m : its .reply .number ≡ 8 = sym (ap (λ (o : Result). o .reply .number) x) ∙ ap (λ (o : Reply). o .number) (pick-true _ _ _ d) in
+          let m : its .reply .number ≡ 8 = ap (λ (o : Result). o .reply .number) (sym x ∙ pick-true _ _ _ d) in
           ap (λ (o : Tally). ranOf s o (areas n g k)) (f ∙ pick-true _ _ _ d)
           ∙ sym (entry-by ∙ pick-false _ _ _ (ne-eqb (its .reply .number) 6 (λ o. omega arith)) ∙ pick-true _ _ _ (eq-eqb _ _ m))
       by false d x =
-          let m : its .reply .number ≡ 6 = sym (ap (λ (o : Result). o .reply .number) x) ∙ ap (λ (o : Reply). o .number) (pick-false _ _ _ d) in
+          let m : its .reply .number ≡ 6 = ap (λ (o : Result). o .reply .number) (sym x ∙ pick-false _ _ _ d) in
           by-six m (ap (λ (o : Tally). ranOf s o (areas n g k)) (f ∙ pick-false _ _ _ d))
 
   -- a worker with a call open is not refused by 8

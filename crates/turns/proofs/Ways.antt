@@ -30,7 +30,7 @@ use Rattle.rules.specs.Lists.{state}
 use Rattle.table.specs.Cut.{firstFour}
 use Rattle.table.proofs.Questions.{both-zero}
 use Rattle.turns.specs.declared.Done.{Done}
-use Rattle.turns.specs.Cut.{triedOf, finished, idleReply, turnHere, doneOf, did, didBy, didHere}
+use Rattle.turns.specs.Cut.{triedOf, finished, turnHere, doneOf, did, didBy, didHere}
 use Rattle.turns.proofs.OneCut.{turn-cut}
 use Rattle.turns.proofs.Three.{Three}
 
@@ -72,14 +72,11 @@ module _ (w : ℕ) (s : Settings) (i : ℕ) (n g l : List ℕ) where
       here-open (a ∙ ap (λ (r : Record). finished w (triedOf w s r (memory n g)) i s (areas n g l)) (sym m)) q z e low
 
   -- an idle worker, by two words of it
-  pub here-idle : {r : Reply} {b : Bool} {c : ℕ} → r ≡ idleReply s c → c ≡ headAt w l i .answer → b ≡ eqb (kindNo (headAt w l i .kind)) 0 → b ≡ true → result r (areas n g l) ≡ turnHere w s i (areas n g l)
-  unfolding turnHere question7 load idleReply
-  here-idle {r} {b} {c} a e q z = by (leb c 3) refl (sym (fits-idle w s l i {k = kindNo (headAt w l i .kind)} {h = headAt w l i} (ap (λ (u : ℕ). leb u 3) e) (sym q ∙ z) refl refl))
-    where
-      by : (d : Bool) → leb c 3 ≡ d → fits w s (load w l i) ≡ leb c 3 → result r (areas n g l) ≡ pick (fits w s (load w l i)) (pick (eqb (kindNo (headAt w l i .kind)) 0) (refused 8 s (areas n g l)) (finished w (triedOf w s (load w l i) (memory n g)) i s (areas n g l))) (refused 6 s (areas n g l))
-      by true d f =
-          ap (λ (u : Reply). result u (areas n g l)) (a ∙ pick-true _ _ _ d) ∙ sym (pick-true _ _ _ (f ∙ d) ∙ pick-true _ _ _ (sym q ∙ z))
-      by false d f = ap (λ (u : Reply). result u (areas n g l)) (a ∙ pick-false _ _ _ d) ∙ sym (pick-false _ _ _ (f ∙ d))
+  pub here-idle : {b : Bool} {c : ℕ} → c ≡ headAt w l i .answer → b ≡ eqb (kindNo (headAt w l i .kind)) 0 → b ≡ true → turnHere w s i (areas n g l) ≡ pick (leb c 3) (refused 8 s (areas n g l)) (refused 6 s (areas n g l))
+  unfolding turnHere question7 load
+  here-idle {b} {c} e q z =
+      let f : leb c 3 ≡ fits w s (load w l i) = fits-idle w s l i {k = kindNo (headAt w l i .kind)} {h = headAt w l i} (ap (λ (u : ℕ). leb u 3) e) (sym q ∙ z) refl refl in
+      rw f (ap (λ (x : Result). pick (fits w s (load w l i)) x (refused 6 s (areas n g l))) (pick-true _ _ _ (sym q ∙ z)))
 
   -- a worker whose words are there
   pub did-outside : (d : Done) {b : Bool} → b ≡ leb (128 * i + 128) (length l) → b ≡ false → 128 * i + 128 ≤ length l → did d (areas n g l) ≡ didHere w s i (areas n g l)

@@ -1,11 +1,10 @@
 -- The parts in which the code carries out one turn. They follow the code's cut and are tied to the operation's definition by lemmas.
 -- Relies on rules for the operations, on steps for what a method gives.
 use Prim.Native.Nat.{ℕ}
-use lib.Dec.{eqb, leb}
+use lib.Dec.{eqb}
 use Rattle.words.specs.Choice.{pick}
 use Rattle.settings.specs.declared.Settings.{Settings}
 use Rattle.areas.specs.Memory.{Areas, areas, Memory}
-use Rattle.record.specs.declared.Answer.the-variants.{Nothing}
 use Rattle.record.specs.declared.Reply.{Reply}
 use Rattle.record.specs.Layout.{Record, store}
 use Rattle.record.specs.Fits.{fits}
@@ -28,10 +27,6 @@ finished w t i s a =
     (refused 6 s a)
     (result (reply (t .number) (t .step′ .answer) 0 (t .step′ .settings))
     (areas (t .step′ .memory .nodes) (t .step′ .memory .levels) (store w (t .step′ .record′) i (a .workers))))
-
--- an idle worker's turn, by the number of its last answer
-unfoldable pub idleReply : Settings → ℕ → Reply
-idleReply s answer = pick (leb answer 3) (reply 8 Nothing 0 s) (reply 6 Nothing 0 s)
 
 -- a turn of a worker below workers: that the record fits, question 8, then what the kind's method gives
 unfoldable pub turnHere : ℕ → Settings → ℕ → Areas → Result
