@@ -4,7 +4,8 @@ use Prim.Native.Nat.{ℕ}
 use Rattle.words.specs.Choice.{pick, both, every, firstNo}
 use Rattle.words.specs.Digits.{base, depths, digit, pixelNumber}
 use Rattle.words.specs.Blocks.{cells, fill}
-use Rattle.settings.specs.Sizes.{levelWords, maxMoves, workerWords, levelCount, fresh, within, question1, question2, question3, openingTwo, firstThree}
+use Rattle.settings.specs.Sizes.{levelWords, maxMoves, workerWords, levelCount, fresh, within, question1, question2, question3}
+use Rattle.settings.specs.Cut.{openingTwo, firstThree}
 use Rattle.areas.specs.Memory.{isNode, named, pixelAt, nextAt, previousAt, depthAt, entryAt, cellAt, setCell, entryCell, fillNode, fillLevel, levelTaken, nodeTaken, refTaken}
 use Rattle.record.specs.Kinds.{kinds, kindOf, kindNo, answerNo, answerNode, answerOf}
 use Rattle.record.specs.Layout.{headFrom, headList, workerPlace, movePlace, headAt, movesAt, moveFrom, moveAt, firstMoves, load, storeHead, moveTo, storeMoves, store, newMove}

@@ -14,7 +14,8 @@ use borrow.Author.Tests.{ne-eqb, eq-eqb, ltb-true}
 use Rattle.words.specs.Choice.{pick, every}
 use Rattle.words.proofs.Choice.{pick-true, pick-false, both-true}
 use Rattle.words.specs.Digits.{depths}
-use Rattle.settings.specs.Sizes.{firstThree, question1, question3, workerWords, maxMoves}
+use Rattle.settings.specs.Sizes.{question1, question3, workerWords, maxMoves}
+use Rattle.settings.specs.Cut.{firstThree}
 use Rattle.settings.specs.declared.Settings.{Settings}
 use Rattle.areas.specs.Memory.{Areas, areas}
 use Rattle.record.specs.declared.Answer.{Answer}
@@ -26,7 +27,7 @@ use Rattle.record.specs.Layout.{workerPlace, headAt, store}
 use Rattle.record.proofs.Records.{head-stored}
 use Rattle.rules.specs.Heads.{ended}
 use Rattle.rules.specs.Lists.{state, after}
-use Rattle.rules.specs.Operations.{Result, result, reply, refused, recordOf, memoryOf, full, fullRecord, taken, turn, turnQuestions, question2Of}
+use Rattle.rules.specs.Operations.{Result, result, reply, refused, recordOf, memoryOf, full, fullRecord, taken, turn, turnQuestions, question2Of, lastOf}
 use Rattle.words.specs.Choice.{firstNo, asks}
 use Rattle.rules.specs.Asked.{question4, question6, question8, question9}
 use Rattle.rules.specs.Steps.{Step}
@@ -34,7 +35,7 @@ use Rattle.rules.specs.Acts.{act}
 use Rattle.rules.proofs.OneTurn.{turn-number, done-number, nine-is-full, turn-refused}
 use Rattle.rules.proofs.Questions.{first-later}
 use Rattle.settings.proofs.Laws.{sized}
-use Rattle.table.specs.Cut.{firstFour, answerIn}
+use Rattle.table.specs.Cut.{firstFour}
 use Rattle.table.proofs.Questions.{both-zero}
 use Rattle.turns.proofs.Ways.{four-yes, four-inside}
 use Rattle.lists.specs.declared.Tally.{Tally}
@@ -62,7 +63,7 @@ module _ (h : Head) where
 
     pub one-done :
         {r : Reply} {n : ℕ} {a : Answer} {c : Settings}
-        → r ≡ reply n a 0 c → n ≡ numberBy h → a ≡ answerIn h → c ≡ countedBy s t → (t .number ≡ 6 → ⊥) → t .left ≡ 0 → r ≡ oneReply s t h
+        → r ≡ reply n a 0 c → n ≡ numberBy h → a ≡ lastOf h → c ≡ countedBy s t → (t .number ≡ 6 → ⊥) → t .left ≡ 0 → r ≡ oneReply s t h
     unfolding oneReply
     one-done p a b c e z = p ∙ rw (a, b, c) (sym (pick-false _ _ _ (ne-eqb _ _ e) ∙ pick-true _ _ _ (eq-eqb _ _ z)))
 
@@ -121,7 +122,7 @@ module _ (w : ℕ) (s : Settings) (i : ℕ) (a : Areas) where
 
   -- the record tells the reply of a turn that was done
   abbrev Told : Result → Type 0
-  Told r = r .reply ≡ reply (numberBy (headAt w (r .areas .workers) i)) (answerIn (headAt w (r .areas .workers) i)) 0 (r .reply .settings)
+  Told r = r .reply ≡ reply (numberBy (headAt w (r .areas .workers) i)) (lastOf (headAt w (r .areas .workers) i)) 0 (r .reply .settings)
 
   taken-told : workerPlace w i + 10 ≤ length (a .workers) → question8 (recordOf w a i) ≡ true → Told (taken w (act w s (recordOf w a i) (memoryOf a)) i (a .workers))
   unfolding taken
@@ -132,7 +133,7 @@ module _ (w : ℕ) (s : Settings) (i : ℕ) (a : Areas) where
       rw (h, k .number-is, k .answer-is) refl
 
   full-told : workerPlace w i + 10 ≤ length (a .workers) → Told (full w s i a)
-  unfolding full fullRecord numberBy answerIn ended kindNo answerOf pick
+  unfolding full fullRecord numberBy lastOf ended kindNo answerOf pick
   full-told room =
       let h : headAt w (store w (fullRecord (recordOf w a i .head)) i (a .workers)) i ≡ fullRecord (recordOf w a i .head) .head =
       head-stored w (fullRecord (recordOf w a i .head)) i (a .workers) room
@@ -186,8 +187,8 @@ module _ (w : ℕ) (s : Settings) (i : ℕ) (a : Areas) where
         let d : h ≡ headAt w (its .areas .workers) i = f ∙ ap (λ (y : Areas). headAt w (y .workers) i) v in
         let u : r ≡ its .reply =
         e ∙ (pick-false _ _ _ (ne-eqb (t .number) 6 (λ z. omega arith)) ∙ (pick-true _ _ _ (eq-eqb _ _ o)
-        ∙ (ap (λ (y : Head). reply (numberBy y) (answerIn y) 0 (countedBy s t)) d
-        ∙ (ap (λ (y : Settings). reply (numberBy (headAt w (its .areas .workers) i)) (answerIn (headAt w (its .areas .workers) i)) 0 y) c ∙ sym told))))
+        ∙ (ap (λ (y : Head). reply (numberBy y) (lastOf y) 0 (countedBy s t)) d
+        ∙ (ap (λ (y : Settings). reply (numberBy (headAt w (its .areas .workers) i)) (lastOf (headAt w (its .areas .workers) i)) 0 y) c ∙ sym told))))
         in
         rw (u, v) refl
 

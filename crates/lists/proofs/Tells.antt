@@ -19,32 +19,32 @@ use Rattle.record.specs.declared.Head.{Head}
 use Rattle.record.specs.declared.Move.{Move}
 use Rattle.record.specs.Kinds.{kindNo, answerOf}
 use Rattle.record.specs.Layout.{Record}
+use Rattle.rules.specs.Operations.{lastOf}
 use Rattle.rules.specs.Heads.{to, toLevel, toNode, holdingNode, holdingLevel, ended}
 use Rattle.rules.specs.Steps.{Step, step, going, expected, peeked, byCount, withNode, takeNode, withLevel, takeLevel, closed}
 use Rattle.rules.specs.Searching as searching
 use Rattle.rules.specs.Moving as moving
 use Rattle.rules.specs.Acts.{actBy, act}
 use Rattle.rules.specs.Asked.{question7, question8}
-use Rattle.table.specs.Cut.{answerIn}
 use Rattle.lists.specs.Cut.{numberBy}
 
 -- a turn's step: its record tells its answer, and number 0
 pub record Tells (t : Step) : Type 0 where
   pub number-is : numberBy (t .record′ .head) ≡ 0
-  pub answer-is : answerIn (t .record′ .head) ≡ t .answer
+  pub answer-is : lastOf (t .record′ .head) ≡ t .answer
 
 open-tells : (s : Settings) (h : Head) (ms : List Move) (m : Memory) → 1 ≤ kindNo (h .kind) → Tells (going s h ms m)
-unfolding numberBy answerIn pick
+unfolding numberBy lastOf pick
 open-tells s h ms m k =
     let e : eqb (kindNo (h .kind)) 0 ≡ false = ne-eqb (kindNo (h .kind)) 0 (λ z. omega arith) in
     record { number-is = simp e; answer-is = simp e }
 
 new-tells : (s : Settings) (i n : ℕ) (h : Head) (m : Memory) → Tells (step (New i) s (ended 1 i n h) [] m)
-unfolding numberBy answerIn ended kindNo answerOf pick
+unfolding numberBy lastOf ended kindNo answerOf pick
 new-tells s i n h m = record { number-is = refl; answer-is = refl }
 
 found-tells : (s : Settings) (i n : ℕ) (h : Head) (m : Memory) → Tells (step (Found i) s (ended 2 i n h) [] m)
-unfolding numberBy answerIn ended kindNo answerOf pick
+unfolding numberBy lastOf ended kindNo answerOf pick
 found-tells s i n h m = record { number-is = refl; answer-is = refl }
 
 module _ (w : ℕ) (s : Settings) (h : Head) where

@@ -14,8 +14,7 @@ use lib.Seq.{take-all, drop-cons}
 use borrow.Author.Tests.{eq-eqb, ne-eqb, lt-ltb, ltb-true}
 use Rattle.words.specs.Choice.{pick, both, every, asks, firstNo}
 use Rattle.words.proofs.Choice.{true-false, pick-both, pick-true, pick-false, both-left, both-right}
-use Rattle.settings.specs.Cut.{counted}
-use Rattle.settings.specs.Sizes.{firstThree, Sized}
+use Rattle.settings.specs.Cut.{counted, firstThree, Sized}
 use Rattle.settings.specs.declared.Settings.{Settings}
 use Rattle.settings.proofs.Laws.{three-yes, sized}
 use Rattle.areas.specs.Memory.{Areas, areas}

@@ -12,9 +12,8 @@ use Rattle.record.specs.declared.Answer.the-variants.{Nothing}
 use Rattle.record.specs.declared.Head.{Head}
 use Rattle.record.specs.declared.Reply.{Reply}
 use Rattle.record.specs.Kinds.{kindNo}
-use Rattle.rules.specs.Operations.{Result, result, reply, turn}
+use Rattle.rules.specs.Operations.{Result, result, reply, turn, lastOf}
 use Rattle.rules.specs.Lists.{State, state, after}
-use Rattle.table.specs.Cut.{answerIn}
 use Rattle.turns.specs.declared.Done.{Done}
 use Rattle.lists.specs.declared.Tally.{Tally}
 
@@ -80,4 +79,4 @@ unfoldable pub oneReply : Settings → Tally → Head → Reply
 oneReply s t h =
     pick (eqb (t .number) 6)
     (reply 6 Nothing 0 s)
-    (pick (eqb (t .left) 0) (reply (numberBy h) (answerIn h) 0 (countedBy s t)) (reply 8 Nothing 0 s))
+    (pick (eqb (t .left) 0) (reply (numberBy h) (lastOf h) 0 (countedBy s t)) (reply 8 Nothing 0 s))

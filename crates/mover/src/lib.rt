@@ -4,7 +4,7 @@ ghost use mathlib.Core.Path.{_≡_};
 ghost use mathlib.Core.List.{_∷_};
 ghost use Prim.Native.Nat.{_+_, _-_, _≤_};
 ghost use Rattle.words.specs.Choice.{both};
-ghost use Rattle.settings.specs.Sizes.{Sized};
+ghost use Rattle.settings.specs.Cut.{Sized};
 ghost use Rattle.areas.specs.Memory.{memory, nodeTaken};
 ghost use Rattle.rules.specs.Moving.{chainHead, chainNext, setNext, setLook, setPut, setRead, setTail, setAppend, setLevel, setClose, setFollow, moveEnd};
 ghost use Rattle.rules.specs.Asked.{tails, takesLevel, chainHeads, chainNexts, setNexts, setPuts, setLooks, setAppends, setCloses, setFollows, moveEnds, readsBy};

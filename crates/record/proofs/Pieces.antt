@@ -8,11 +8,11 @@ use native.Mathlib.Omega.{arith}
 use lib.ListN.{length, getD}
 use lib.Seq.{sets, length-sets}
 use Rattle.words.specs.Blocks.{cells}
-use Rattle.words.proofs.Blocks.{getD-cells, read-back, read-before, below-sets, above-sets, sets-cells}
+use Rattle.words.proofs.Blocks.{length-cells, getD-cells, read-back, read-before, below-sets, above-sets, sets-cells}
 use Rattle.settings.specs.Sizes.{headWords, moveWords, maxLimit, maxMoves, workerWords}
 use Rattle.record.specs.declared.Head.{Head}
 use Rattle.record.specs.declared.Move.{Move}
-use Rattle.record.specs.Layout.{headFrom, headList, workerPlace, movePlace, moveFrom, moveAt, firstMoves, storeHead, moveTo, storeMoves}
+use Rattle.record.specs.Layout.{headFrom, headList, workerPlace, movePlace, moveFrom, moveAt, firstMoves, storeHead, moveTo, storeMoves, newMove}
 use Rattle.record.proofs.Numbers.{kind-back}
 use Rattle.record.proofs.Apart.{Outside, before, after, sets-outside, cells-same, room}
 
@@ -128,6 +128,16 @@ first-same w l l′ i h (suc n) g =
     rw e (h (headWords + moveWords * n + k) (omega arith)))
     in
     rw (a, first-same w l l′ i h n (omega arith))
+
+-- Moves that were read, and one that has remembered nothing, have a word for each place of a chain
+pub first-sized : (w : ℕ) (l : List ℕ) (i n : ℕ) → AllSized (firstMoves w l i n)
+unfolding firstMoves moveAt moveFrom
+first-sized w l i zero = tt
+first-sized w l i (suc n) = (length-cells l (movePlace w i n + 3) maxLimit, first-sized w l i n)
+
+pub new-sized : (home child : ℕ) → length (newMove home child .nodes) ≡ maxLimit
+unfolding newMove
+new-sized home child = refl
 
 -- the head: its ten words are there again
 head-eta : (h : Head) (m : ℕ) → headFrom (headList h m) ≡ h

@@ -14,7 +14,7 @@ use Rattle.record.specs.declared.Answer.{Answer}
 use Rattle.record.specs.declared.Answer.the-variants.{Nothing, Full, Open}
 use Rattle.record.specs.declared.Reply.{Reply}
 use Rattle.record.specs.declared.Head.{Head}
-use Rattle.record.specs.Kinds.{answerOf}
+use Rattle.record.specs.Kinds.{kindNo, answerOf}
 use Rattle.record.specs.Layout.{Record, record′, load, store}
 use Rattle.rules.specs.Opening.{openedSettings, openedAreas}
 use Rattle.rules.specs.Heads.{started, ended}
@@ -131,11 +131,11 @@ lastQuestions w s i a =
     ∷ asks 6 (question6Record w s (recordOf w a i))
     ∷ []
 
--- the answer that a record holds
-unfoldable pub lastOf : Record → Answer
-lastOf r = pick (question7 r) (answerOf (r .head .answer) (r .head .«answer_node»)) Open
+-- the answer that a record's head holds
+unfoldable pub lastOf : Head → Answer
+lastOf h = pick (eqb (kindNo (h .kind)) 0) (answerOf (h .answer) (h .«answer_node»)) Open
 
 -- last answer: it changes nothing
 unfoldable pub lastAnswer : ℕ → Settings → ℕ → Areas → Result
 lastAnswer w s i a =
-    unlessRefused (firstNo (lastQuestions w s i a)) s a (result (reply 0 (lastOf (recordOf w a i)) 0 s) a)
+    unlessRefused (firstNo (lastQuestions w s i a)) s a (result (reply 0 (lastOf (recordOf w a i .head)) 0 s) a)

@@ -3,8 +3,8 @@
 ghost use mathlib.Core.Path.{_≡_};
 ghost use Prim.Native.Nat.{_≤_};
 ghost use lib.Dec.{leb};
-ghost use Rattle.settings.specs.Cut.{counted};
-ghost use Rattle.settings.specs.Sizes.{levelCount, fresh, within, question1, question2, question3, firstThree, openingTwo, Ranges};
+ghost use Rattle.settings.specs.Cut.{counted, firstThree, openingTwo, Ranges};
+ghost use Rattle.settings.specs.Sizes.{levelCount, fresh, within, question1, question2, question3};
 use words::and;
 use words::le;
 

@@ -12,7 +12,8 @@ use Rattle.words.specs.Choice.{pick, both}
 use Rattle.words.specs.Digits.{depths}
 use Rattle.words.proofs.Choice.{via, both-left, both-right}
 use Rattle.settings.specs.declared.Settings.{Settings}
-use Rattle.settings.specs.Sizes.{Sized, levelCount}
+use Rattle.settings.specs.Sizes.{levelCount}
+use Rattle.settings.specs.Cut.{Sized}
 use Rattle.areas.specs.declared.Cell.{Cell}
 use Rattle.areas.specs.Memory.{Memory, isNode, named, depthAt, cellAt, levelTaken, refTaken}
 use Rattle.record.specs.declared.Head.{Head}

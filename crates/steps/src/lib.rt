@@ -3,7 +3,7 @@
 ghost use mathlib.Core.Path.{_≡_};
 ghost use Prim.Native.Nat.{_+_, _-_, _≤_};
 ghost use Rattle.words.specs.Digits.{depths};
-ghost use Rattle.settings.specs.Sizes.{Sized};
+ghost use Rattle.settings.specs.Cut.{Sized};
 ghost use Rattle.areas.specs.Memory.{memory, depthAt};
 ghost use Rattle.rules.specs.Heads.{to, toLevel, toNode, holdingNode, holdingLevel, ended};
 ghost use Rattle.rules.specs.Steps.{peeked, byCount, more, tookNode, tookLevel, childOf, backMeets};

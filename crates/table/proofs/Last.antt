@@ -9,7 +9,8 @@ use lib.ListN.{length}
 use borrow.Author.Tests.{ne-eqb}
 use Rattle.words.specs.Choice.{pick, asks, firstNo}
 use Rattle.settings.specs.declared.Settings.{Settings}
-use Rattle.settings.specs.Sizes.{firstThree, question1, question2, question3}
+use Rattle.settings.specs.Sizes.{question1, question2, question3}
+use Rattle.settings.specs.Cut.{firstThree}
 use Rattle.areas.specs.Memory.{areas}
 use Rattle.record.specs.declared.Answer.{Answer}
 use Rattle.record.specs.declared.Answer.the-variants.{Nothing, Open}
@@ -20,17 +21,17 @@ use Rattle.record.specs.Layout.{load, headAt}
 use Rattle.record.specs.Fits.{fits}
 use Rattle.rules.specs.Asked.{question4, question6Record, question7}
 use Rattle.rules.specs.Operations.{result, reply, unlessRefused, lastQuestions, lastOf, lastAnswer}
-use Rattle.table.specs.Cut.{firstFour, answerIn}
+use Rattle.table.specs.Cut.{firstFour}
 use Rattle.table.proofs.Questions.{after-four}
 
 -- the answer that a record holds, by its head
 module _ (h : Head) where
-  pub answer-idle : {a : Answer} → a ≡ answerOf (h .answer) (h .«answer_node») → eqb (kindNo (h .kind)) 0 ≡ true → a ≡ answerIn h
-  unfolding answerIn pick
+  pub answer-idle : {a : Answer} → a ≡ answerOf (h .answer) (h .«answer_node») → eqb (kindNo (h .kind)) 0 ≡ true → a ≡ lastOf h
+  unfolding lastOf pick
   answer-idle a t = simp (t, a)
 
-  pub answer-open : eqb (kindNo (h .kind)) 0 ≡ false → Open ≡ answerIn h
-  unfolding answerIn pick
+  pub answer-open : eqb (kindNo (h .kind)) 0 ≡ false → Open ≡ lastOf h
+  unfolding lastOf pick
   answer-open t = simp t
 
 module _ (w : ℕ) (s : Settings) (i : ℕ) (n g k : List ℕ) where
@@ -66,9 +67,9 @@ module _ (w : ℕ) (s : Settings) (i : ℕ) (n g k : List ℕ) where
   -- the ways through a last answer
   pub last-done :
       {r : Reply} {a : Answer} {h : Head} {q : ℕ}
-      → r ≡ reply 0 a 0 s → a ≡ answerIn h → h ≡ headAt w k i → q ≡ firstNo (lastQuestions w s i (areas n g k)) → q ≡ 0
+      → r ≡ reply 0 a 0 s → a ≡ lastOf h → h ≡ headAt w k i → q ≡ firstNo (lastQuestions w s i (areas n g k)) → q ≡ 0
       → result r (areas n g k) ≡ lastAnswer w s i (areas n g k)
-  unfolding lastAnswer unlessRefused lastOf question7 answerIn load pick
+  unfolding lastAnswer unlessRefused load pick
   last-done a b c d e = simp (← d, e, a, b, c)
 
   pub last-refused :

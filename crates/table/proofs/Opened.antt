@@ -10,7 +10,8 @@ use Rattle.words.specs.Choice.{pick, firstNo}
 use Rattle.words.specs.Blocks.{fill}
 use Rattle.words.specs.Digits.{depths}
 use Rattle.settings.specs.declared.Settings.{Settings}
-use Rattle.settings.specs.Sizes.{fresh, maxMoves, workerWords, openingTwo}
+use Rattle.settings.specs.Sizes.{fresh, maxMoves, workerWords}
+use Rattle.settings.specs.Cut.{openingTwo}
 use Rattle.areas.specs.Memory.{areas, fillLevel, none}
 use Rattle.record.specs.declared.Answer.the-variants.{Nothing}
 use Rattle.record.specs.declared.Reply.{Reply}

@@ -8,7 +8,7 @@ use lib.Dec.{eqb, ltb}
 use borrow.Author.Tests.{ne-eqb, eqb-true, eqb-false}
 use Rattle.words.specs.Choice.{pick, Question, asks, firstNo}
 use Rattle.settings.specs.declared.Settings.{Settings}
-use Rattle.settings.specs.Sizes.{firstThree}
+use Rattle.settings.specs.Cut.{firstThree}
 use Rattle.settings.proofs.Laws.{ranges, three-yes}
 use Rattle.rules.specs.Asked.{question4}
 use Rattle.table.specs.Cut.{firstFour}

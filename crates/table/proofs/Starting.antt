@@ -11,7 +11,8 @@ use Rattle.words.specs.Choice.{pick, both, asks, firstNo}
 use Rattle.words.specs.Digits.{maxSide, pixelNumber}
 use Rattle.words.proofs.Choice.{both-left, both-right}
 use Rattle.settings.specs.declared.Settings.{Settings}
-use Rattle.settings.specs.Sizes.{firstThree, question1, question2, question3}
+use Rattle.settings.specs.Sizes.{question1, question2, question3}
+use Rattle.settings.specs.Cut.{firstThree}
 use Rattle.settings.proofs.Laws.{pick-zero}
 use Rattle.areas.specs.Memory.{areas}
 use Rattle.record.specs.declared.Answer.the-variants.{Nothing, Open}

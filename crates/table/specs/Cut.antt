@@ -5,7 +5,7 @@ use mathlib.Core.List.{List}
 use lib.Dec.{eqb}
 use Rattle.words.specs.Choice.{pick}
 use Rattle.words.specs.Digits.{pixelNumber}
-use Rattle.settings.specs.Sizes.{firstThree}
+use Rattle.settings.specs.Cut.{firstThree}
 use Rattle.settings.specs.declared.Settings.{Settings}
 use Rattle.record.specs.declared.Answer.{Answer}
 use Rattle.record.specs.declared.Answer.the-variants.{Open}
@@ -27,7 +27,3 @@ sixSeven w s r = pick (fits w s r) (pick (question7 r) 0 7) 6
 -- the workers' words with the record of a call that starts
 unfoldable pub begun : ℕ → ℕ → ℕ → ℕ → List ℕ → List ℕ
 begun w i row column k = storeHead w (started (pixelNumber row column) (headAt w k i)) 0 i k
-
--- the answer that a record holds, by its head
-unfoldable pub answerIn : Head → Answer
-answerIn h = pick (eqb (kindNo (h .kind)) 0) (answerOf (h .answer) (h .«answer_node»)) Open

@@ -11,8 +11,8 @@ ghost use Rattle.record.specs.Kinds.{kindNo};
 ghost use Rattle.record.specs.Layout.{load};
 ghost use Rattle.rules.specs.Heads.{started};
 ghost use Rattle.rules.specs.Asked.{question5};
-ghost use Rattle.rules.specs.Operations.{result, reply, opening, startQuestions, start, lastQuestions, lastAnswer};
-ghost use Rattle.table.specs.Cut.{firstFour, sixSeven, begun, answerIn};
+ghost use Rattle.rules.specs.Operations.{result, reply, opening, startQuestions, start, lastQuestions, lastAnswer, lastOf};
+ghost use Rattle.table.specs.Cut.{firstFour, sixSeven, begun};
 use areas::fill_level;
 use record::Answer;
 use record::Head;
@@ -190,7 +190,7 @@ pub fn start(
 
 // The answer that a record holds.
 pub fn answer_in(h: Head) -> Answer
-    ensures { λ r. ⌜ r ≡ answerIn h ⌝ }
+    ensures { λ r. ⌜ r ≡ lastOf h ⌝ }
 {
     let a = answer_of(h.answer, h.answer_node);
     if is_idle(h) { a } else { Answer::Open }

@@ -24,7 +24,7 @@ use Rattle.steps.specs.Tried.{Tried, tried, unlessSix, unlessNine}
 use Rattle.worker.specs.declared.Turned.{Turned}
 use Rattle.worker.specs.Tried.{turned}
 use Rattle.worker.specs.Searching.{searchTried}
-use Rattle.worker.proofs.ByKind.{search-tried}
+use Rattle.worker.proofs.Turns.{search-tried}
 use Rattle.turns.specs.Cut.{triedOf, finished}
 
 -- a head and no Move

@@ -11,7 +11,8 @@ use borrow.Author.Tests.{ne-eqb, eqb-true, le-leb, lt-leb, leb-true}
 use Rattle.words.specs.Choice.{pick, both, every}
 use Rattle.words.specs.Digits.{depths}
 use Rattle.words.proofs.Choice.{pick-both, pick-true, pick-false, both-left, both-right, both-true, true-false}
-use Rattle.settings.specs.Sizes.{maxMoves, within, Sized}
+use Rattle.settings.specs.Sizes.{maxMoves, within}
+use Rattle.settings.specs.Cut.{Sized}
 use Rattle.settings.specs.declared.Settings.{Settings}
 use Rattle.settings.proofs.Laws.{within-true}
 use Rattle.areas.specs.Memory.{Memory, memory, areas}

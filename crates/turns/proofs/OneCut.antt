@@ -9,7 +9,8 @@ use lib.Dec.{eqb}
 use lib.ListN.{length}
 use borrow.Author.Tests.{eqb-true}
 use Rattle.words.specs.Choice.{pick, both, asks, firstNo}
-use Rattle.settings.specs.Sizes.{question1, question3, firstThree}
+use Rattle.settings.specs.Sizes.{question1, question3}
+use Rattle.settings.specs.Cut.{firstThree}
 use Rattle.settings.specs.declared.Settings.{Settings}
 use Rattle.areas.specs.Memory.{Areas, Memory}
 use Rattle.record.specs.declared.Kind.{Kind}

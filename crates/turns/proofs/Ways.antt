@@ -11,7 +11,8 @@ use lib.ListN.{length}
 use borrow.Author.Tests.{eq-eqb, ne-eqb, eqb-true, eqb-false, le-leb, leb-true, leb-false, ltb-true}
 use Rattle.words.specs.Choice.{pick, both}
 use Rattle.words.proofs.Choice.{pick-true, pick-false, both-right}
-use Rattle.settings.specs.Sizes.{firstThree, question2, maxMoves, workerWords}
+use Rattle.settings.specs.Sizes.{question2, maxMoves, workerWords}
+use Rattle.settings.specs.Cut.{firstThree}
 use Rattle.words.specs.Digits.{depths}
 use Rattle.settings.specs.declared.Settings.{Settings}
 use Rattle.settings.proofs.Laws.{three-yes}

@@ -5,7 +5,7 @@ ghost use mathlib.Core.Bool.{true};
 ghost use mathlib.Core.List.{[]};
 ghost use Prim.Native.Nat.{_+_, _*_, _≤_};
 ghost use lib.ListN.{length};
-ghost use Rattle.settings.specs.Sizes.{Sized};
+ghost use Rattle.settings.specs.Cut.{Sized};
 ghost use Rattle.areas.specs.Memory.{areas, memory};
 ghost use Rattle.record.specs.Kinds.{kindNo};
 ghost use Rattle.record.specs.Layout.{record′, load, headAt, store};

@@ -8,7 +8,7 @@ use lib.Dec.{ltb, eqb}
 use Rattle.words.specs.Choice.{pick, both}
 use Rattle.words.proofs.Choice.{via, both-left, both-right}
 use Rattle.settings.specs.declared.Settings.{Settings}
-use Rattle.settings.specs.Sizes.{Sized}
+use Rattle.settings.specs.Cut.{Sized}
 use Rattle.areas.specs.Memory.{levelTaken}
 use Rattle.record.specs.declared.Head.{Head}
 use Rattle.rules.specs.Asked.{spareNode, comparesRef, goesBack, nodeLeft, takes}

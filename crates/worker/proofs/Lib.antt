@@ -3,4 +3,3 @@
 pub mod Asked
 pub mod Steps
 pub mod Turns
-pub mod ByKind

@@ -3,17 +3,20 @@
 use mathlib.Core.Path.{_≡_, refl}
 use mathlib.Core.Bool.{Bool, true, false, not}
 use mathlib.Core.List.{[]}
-use Prim.Native.Nat.{ℕ}
+use Prim.Native.Nat.{ℕ, _≤_}
 use lib.Dec.{leb}
+use borrow.Author.Tests.{le-leb, not-true}
 use Rattle.words.specs.Choice.{pick, both}
 use Rattle.settings.specs.declared.Settings.{Settings}
 use Rattle.areas.specs.declared.Cell.{Cell}
 use Rattle.areas.specs.Memory.{Memory, cellAt}
 use Rattle.record.specs.declared.Kind.{Kind}
-use Rattle.record.specs.declared.Kind.the-variants.{Idle, Look, Take, Put, Read, Tail, TakeTail, Append, Level, Close, Follow, ChainHead, ChainNext, SetNext, SetLook, SetPut, SetRead, SetTail, SetAppend, SetLevel, SetClose, SetFollow, MoveEnd, Unknown}
 use Rattle.record.specs.Kinds.{kindNo}
 use Rattle.record.specs.declared.Answer.the-variants.{Nothing, Full, Open}
 use Rattle.record.specs.declared.Head.{Head}
+use Rattle.record.specs.Layout.{record′}
+use Rattle.rules.specs.Acts.{actBy}
+use Rattle.rules.specs.Asked.{readsBy, question9}
 use Rattle.rules.specs.Heads.{ended}
 use Rattle.rules.specs.Steps.{Step, step, going, peeked}
 use Rattle.rules.specs.Searching.{placed, readWord, followWord}
@@ -21,7 +24,7 @@ use Rattle.worker.specs.declared.Turned.{Turned}
 use Rattle.steps.specs.Cut.{begun}
 use Rattle.steps.specs.Tried.{Tried, tried, unlessSix, unlessNine}
 use Rattle.worker.specs.Tried.{turned, turnedOf}
-use Rattle.worker.specs.Searching.{searchTried}
+use Rattle.worker.specs.Searching.{isSearching, searchTried}
 
 -- question 6: no leaves everything, yes goes on
 module _ (q : Bool) (s : Settings) (h : Head) (m : Memory) where
@@ -68,40 +71,26 @@ module _ (w : ℕ) (s : Settings) (h : Head) (m : Memory) (word : ℕ) {t : Trie
   followed-at a b = simp (a, b)
 
 -- a kind that is none of a search is refused
-not-search : (k : Kind) (w : ℕ) (s : Settings) (h : Head) (m : Memory) → not (both (leb 1 (kindNo k)) (leb (kindNo k) 10)) ≡ true → searchTried k w s h m ≡ tried 6 (step Nothing s h [] m)
-unfolding searchTried kindNo both
-not-search Idle w s h m e = refl
-not-search Look w s h m e = let z : false ≡ true = e in cc
-not-search Take w s h m e = let z : false ≡ true = e in cc
-not-search Put w s h m e = let z : false ≡ true = e in cc
-not-search Read w s h m e = let z : false ≡ true = e in cc
-not-search Tail w s h m e = let z : false ≡ true = e in cc
-not-search TakeTail w s h m e = let z : false ≡ true = e in cc
-not-search Append w s h m e = let z : false ≡ true = e in cc
-not-search Level w s h m e = let z : false ≡ true = e in cc
-not-search Close w s h m e = let z : false ≡ true = e in cc
-not-search Follow w s h m e = let z : false ≡ true = e in cc
-not-search ChainHead w s h m e = refl
-not-search ChainNext w s h m e = refl
-not-search SetNext w s h m e = refl
-not-search SetLook w s h m e = refl
-not-search SetPut w s h m e = refl
-not-search SetRead w s h m e = refl
-not-search SetTail w s h m e = refl
-not-search SetAppend w s h m e = refl
-not-search SetLevel w s h m e = refl
-not-search SetClose w s h m e = refl
-not-search SetFollow w s h m e = refl
-not-search MoveEnd w s h m e = refl
-not-search Unknown w s h m e = refl
+not-searching : (k : Kind) → not (both (leb 1 (kindNo k)) (leb (kindNo k) 10)) ≡ true → isSearching k ≡ false
+unfolding isSearching
+not-searching k e = not-true (both (leb 1 (kindNo k)) (leb (kindNo k) 10)) e
 
 pub turn-other :
     (k : Kind) (w : ℕ) (s : Settings) (h : Head) (m : Memory) {t : Turned}
     → t ≡ turnedOf 6 Nothing s h 0 → not (both (leb 1 (kindNo k)) (leb (kindNo k) 10)) ≡ true → turned t m ≡ searchTried k w s h m
-unfolding begun pick
-turn-other k w s h m a e = simp (a, not-search k w s h m e)
+unfolding begun pick searchTried both unlessSix
+turn-other k w s h m a e = simp (a, not-searching k e)
 
 -- a turn by its kind
 pub turn-kind :
     (k : Kind) (w : ℕ) (s : Settings) (h : Head) (m : Memory) {t : Tried} → t ≡ searchTried k w s h m → h .kind ≡ k → t ≡ searchTried (h .kind) w s h m
 turn-kind k w s h m a e = simp (e, a)
+
+-- a turn of a search is the turn that the definitions say
+pub search-tried :
+    (w : ℕ) (s : Settings) (h : Head) (m : Memory)
+    → 1 ≤ kindNo (h .kind) → kindNo (h .kind) ≤ 10
+    → searchTried (h .kind) w s h m
+    ≡ unlessSix (readsBy (h .kind) w s h [] m) s h [] m (unlessNine (question9 s (record′ h [])) s h m (actBy (h .kind) w s h [] m))
+unfolding searchTried isSearching question9 both pick
+search-tried w s h m low high = simp (le-leb _ _ low, le-leb _ _ high)

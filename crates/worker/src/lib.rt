@@ -3,7 +3,7 @@
 ghost use mathlib.Core.Path.{_≡_};
 ghost use mathlib.Core.List.{[]};
 ghost use Prim.Native.Nat.{_≤_};
-ghost use Rattle.settings.specs.Sizes.{Sized};
+ghost use Rattle.settings.specs.Cut.{Sized};
 ghost use Rattle.areas.specs.Memory.{memory, depthAt, cellAt};
 ghost use Rattle.rules.specs.Steps.{withNode, takeNode, takeLevel, closed};
 ghost use Rattle.rules.specs.Searching.{entryOf, placed, metNode, met, readWord, followWord, look, take, put, read, tail, takeTail, append, level, close, follow};

@@ -1,9 +1,13 @@
 -- `worker::Worker::turn` meets its contract.
 -- Relies on Turns, on record for a kind known among several.
 use Rattle.record.proofs.Numbers.{kind-among}
-use Rattle.words.specs.Choice.{both, every}
+use Rattle.record.specs.Kinds.{kindNo}
+use Rattle.rules.specs.Acts.{actBy}
+use Rattle.rules.specs.Asked.{readsBy, takesNode}
+use Rattle.steps.specs.Tried.{unlessNine}
+use Rattle.words.specs.Choice.{pick, both, every}
 use Rattle.worker.proofs.Turns.{turn-kind, turn-other}
-use Rattle.worker.specs.Searching.{searchTried}
+use Rattle.worker.specs.Searching.{isSearching, searchTried}
 use lib.Dec.{leb}
 use mathlib.Core.Bool.{not}
 use mathlib.Core.List.{[], _∷_}
@@ -82,7 +86,7 @@ same-length-2 : tie.Need-same-length-2
 same-length-2 c = search needs
 
 returns : tie.Need-returns
-unfolding searchTried
+unfolding searchTried isSearching kindNo both readsBy takesNode actBy unlessNine pick
 returns c = search (needs, turn-kind)
 
 same-length-3 : tie.Need-same-length-3
@@ -92,7 +96,7 @@ same-length-4 : tie.Need-same-length-4
 same-length-4 c = search needs
 
 returns-2 : tie.Need-returns-2
-unfolding searchTried
+unfolding searchTried isSearching kindNo both readsBy takesNode actBy unlessNine pick
 returns-2 c = search (needs, turn-kind)
 
 same-length-5 : tie.Need-same-length-5
@@ -102,7 +106,7 @@ same-length-6 : tie.Need-same-length-6
 same-length-6 c = search needs
 
 returns-3 : tie.Need-returns-3
-unfolding searchTried
+unfolding searchTried isSearching kindNo both readsBy takesNode actBy unlessNine pick
 returns-3 c = search (needs, turn-kind)
 
 same-length-7 : tie.Need-same-length-7
@@ -112,7 +116,7 @@ same-length-8 : tie.Need-same-length-8
 same-length-8 c = search needs
 
 returns-4 : tie.Need-returns-4
-unfolding searchTried
+unfolding searchTried isSearching kindNo both readsBy takesNode actBy unlessNine pick
 returns-4 c = search (needs, turn-kind)
 
 same-length-9 : tie.Need-same-length-9
@@ -122,7 +126,7 @@ same-length-10 : tie.Need-same-length-10
 same-length-10 c = search needs
 
 returns-5 : tie.Need-returns-5
-unfolding searchTried
+unfolding searchTried isSearching kindNo both readsBy takesNode actBy unlessNine pick
 returns-5 c = search (needs, turn-kind)
 
 same-length-11 : tie.Need-same-length-11
@@ -132,7 +136,7 @@ same-length-12 : tie.Need-same-length-12
 same-length-12 c = search needs
 
 returns-6 : tie.Need-returns-6
-unfolding searchTried
+unfolding searchTried isSearching kindNo both readsBy takesNode actBy unlessNine pick
 returns-6 c = search (needs, turn-kind)
 
 same-length-13 : tie.Need-same-length-13
@@ -142,7 +146,7 @@ same-length-14 : tie.Need-same-length-14
 same-length-14 c = search needs
 
 returns-7 : tie.Need-returns-7
-unfolding searchTried
+unfolding searchTried isSearching kindNo both readsBy takesNode actBy unlessNine pick
 returns-7 c = search (needs, turn-kind)
 
 same-length-15 : tie.Need-same-length-15
@@ -152,7 +156,7 @@ same-length-16 : tie.Need-same-length-16
 same-length-16 c = search needs
 
 returns-8 : tie.Need-returns-8
-unfolding searchTried
+unfolding searchTried isSearching kindNo both readsBy takesNode actBy unlessNine pick
 returns-8 c = search (needs, turn-kind)
 
 same-length-17 : tie.Need-same-length-17
@@ -162,7 +166,7 @@ same-length-18 : tie.Need-same-length-18
 same-length-18 c = search needs
 
 returns-9 : tie.Need-returns-9
-unfolding searchTried
+unfolding searchTried isSearching kindNo both readsBy takesNode actBy unlessNine pick
 returns-9 c = search (needs, turn-kind)
 
 same-length-19 : tie.Need-same-length-19
@@ -172,7 +176,7 @@ same-length-20 : tie.Need-same-length-20
 same-length-20 c = search needs
 
 returns-10 : tie.Need-returns-10
-unfolding searchTried
+unfolding searchTried isSearching kindNo both readsBy takesNode actBy unlessNine pick
 returns-10 c = search (needs, turn-kind)
 
 returns-11 : tie.Need-returns-11
