@@ -420,7 +420,7 @@ impl Mover {
     {
         let h = self.head;
         if refers_to(next_at(nodes, h.node), h.level) {
-            lt(self.moves, 7)
+            lt(self.moves, Settings::MAX_MOVES)
         } else {
             true
         }

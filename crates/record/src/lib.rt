@@ -296,7 +296,7 @@ fn call_fits(s: Settings, k: u32, h: Head) -> bool
     requires { ⌜ s .limit ≤ 8 ⌝ }
     ensures { λ r. ⌜ r ≡ callFits s k h ⌝ }
 {
-    let p = le(h.pixel, 16777215);
+    let p = le(h.pixel, Settings::MAX_PIXEL);
     if on_chain(k) {
         and(p, count_fits(s, h.count))
     } else {

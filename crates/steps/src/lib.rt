@@ -107,13 +107,19 @@ pub fn node_in_hand(s: Settings, h: Head) -> bool
 pub fn picks_in(s: Settings, g: u32, levels: &[u32]) -> bool
     ensures { λ r. ⌜ r ≡ picksIn 3 s g (now (levels .entry)) ⌝ }
 {
-    and(level_taken(s, g), le(depth_at(levels, g), 7))
+    and(
+        level_taken(s, g),
+        le(depth_at(levels, g), Settings::DEEPEST),
+    )
 }
 
 pub fn pixel_fits(s: Settings, i: u32, nodes: &[u32]) -> bool
     ensures { λ r. ⌜ r ≡ pixelFits s i (now (nodes .entry)) ⌝ }
 {
-    and(node_taken(s, i), le(pixel_at(nodes, i), 16777215))
+    and(
+        node_taken(s, i),
+        le(pixel_at(nodes, i), Settings::MAX_PIXEL),
+    )
 }
 
 pub fn compares_ref(s: Settings, word: u32, nodes: &[u32]) -> bool

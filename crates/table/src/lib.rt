@@ -69,7 +69,7 @@ pub fn open(s: Settings, nodes: &[u32], levels: &mut [u32], workers: &mut [u32])
 fn in_frame(row: u32, column: u32) -> bool
     ensures { λ r. ⌜ r ≡ question5 row column ⌝ }
 {
-    and(le(row, 4095), le(column, 4095))
+    and(le(row, Settings::MAX_SIDE), le(column, Settings::MAX_SIDE))
 }
 
 pub fn is_idle(h: Head) -> bool
