@@ -24,8 +24,8 @@ use Rattle.rules.specs.Excess.{Untouched, ExcessStays}
 use Rattle.rules.proofs.Questions.{first-later}
 use Rattle.rules.proofs.Invariant.{SameSizes}
 use Rattle.rules.proofs.ExcessWords.{same-refl, same-then, same-fill, same-level}
-use Rattle.rules.proofs.ExcessRecords.{Roomy, same-store, roomy-none, roomy-few, few-moves}
-use Rattle.rules.proofs.ExcessActs.{Tame, sizes-same, kind-tame}
+use Rattle.rules.proofs.ExcessRecords.{FitWords, same-store, fit-none, fit-few, few-moves}
+use Rattle.rules.proofs.ExcessActs.{Leaves, sizes-same, kind-leaves}
 
 untouched-refl : (w : ℕ) (s : Settings) (a : Areas) → Untouched w s a a
 untouched-refl w s a = record { nodes = same-refl _ _; levels = same-refl _ _; workers = same-refl _ _ }
@@ -54,7 +54,7 @@ unfolding unlessRefused
 unless-untouched {w} {s} {a} n done f = pick-both (λ (r : Result). Untouched w s a (r .areas)) _ (λ e. f (eqb-true n 0 e)) (λ e. untouched-refl w s a)
 
 -- another record of a worker below workers
-with-record : (w : ℕ) (s : Settings) (i : ℕ) (r : Record) (a : Areas) → Roomy w (r .moves) → question4 s i ≡ true → Untouched w s a (withRecord w i r a)
+with-record : (w : ℕ) (s : Settings) (i : ℕ) (r : Record) (a : Areas) → FitWords w (r .moves) → question4 s i ≡ true → Untouched w s a (withRecord w i r a)
 unfolding question4
 with-record w s i r a f q = record { nodes = same-refl _ _; levels = same-refl _ _; workers = same-store w r i (a .workers) f (ltb-true _ _ q) }
 
@@ -73,7 +73,7 @@ module _ (w : ℕ) (s : Settings) where
 
   start-untouched : (i row column : ℕ) (a : Areas) → Untouched w s a (start w s i row column a .areas)
   unfolding start startQuestions startedAreas
-  start-untouched i row column a = unless-untouched _ _ (λ z. with-record w s i _ a (roomy-none w) (below z))
+  start-untouched i row column a = unless-untouched _ _ (λ z. with-record w s i _ a (fit-none w) (below z))
     where
       below : firstNo (startQuestions w s i row column a) ≡ 0 → question4 s i ≡ true
       below z =
@@ -102,16 +102,16 @@ module _ (w : ℕ) (s : Settings) where
       record { counters = y₃; below = y₄; reads = y₆; busy = not-true _ y₈; gives = e₈ }
 
   -- the Moves of a record that fits, of a worker with a call open
-  loaded : (l : List ℕ) (i : ℕ) → fits w s (load w l i) ≡ true → question7 (load w l i) ≡ false → Roomy w (load w l i .moves)
+  loaded : (l : List ℕ) (i : ℕ) → fits w s (load w l i) ≡ true → question7 (load w l i) ≡ false → FitWords w (load w l i .moves)
   unfolding fits question7 load
-  loaded l i e b = roomy-few w (load w l i .moves) (first-sized w l i (movesAt w l i)) (few-moves w s _ (load w l i) b e)
+  loaded l i e b = fit-few w (load w l i .moves) (first-sized w l i (movesAt w l i)) (few-moves w s _ (load w l i) b e)
 
   -- a turn whose questions are all answered yes
-  act-tame : (i : ℕ) (a : Areas) → Asked i a 0 → Tame w s (memoryOf a) (act w s (recordOf w a i) (memoryOf a))
+  act-leaves : (i : ℕ) (a : Areas) → Asked i a 0 → Leaves w s (memoryOf a) (act w s (recordOf w a i) (memoryOf a))
   unfolding act question6 question9
-  act-tame i a y =
+  act-leaves i a y =
       let r : Record = recordOf w a i in
-      kind-tame w s (y .counters) (r .head) (memoryOf a) (r .head .kind) (r .moves) (loaded (a .workers) i (both-left _ _ (y .reads)) (y .busy)) (both-right _ _ (y .reads)) (first-later 9 _ _ (λ z. omega arith) (y .gives) .0)
+      kind-leaves w s (y .counters) (r .head) (memoryOf a) (r .head .kind) (r .moves) (loaded (a .workers) i (both-left _ _ (y .reads)) (y .busy)) (both-right _ _ (y .reads)) (first-later 9 _ _ (λ z. omega arith) (y .gives) .0)
 
   -- a turn leaves the excess and the sizes
   record Turned (a : Areas) (r : Result) : Type 0 where
@@ -128,12 +128,12 @@ module _ (w : ℕ) (s : Settings) where
       is-full : firstNo (turnQuestions w s i a) ≡ 9 → Turned a (full w s i a)
       is-full e =
           let y = asked i a (λ k l h z. omega arith) e in
-          record { areas = with-record w s i _ a (roomy-none w) (y .below); sizes = sizes-same s }
+          record { areas = with-record w s i _ a (fit-none w) (y .below); sizes = sizes-same s }
 
       is-taken : firstNo (turnQuestions w s i a) ≡ 0 → Turned a (taken w (act w s (recordOf w a i) (memoryOf a)) i (a .workers))
       is-taken e =
           let y = asked i a (λ k l h z. omega arith) e in
-          let t = act-tame i a y in
+          let t = act-leaves i a y in
           record {
             areas = record { nodes = t .memory .nodes; levels = t .memory .levels; workers = with-record w s i _ a (t .moves) (y .below) .workers };
             sizes = t .sizes;

@@ -31,12 +31,12 @@ use Rattle.rules.specs.Acts.{inner, outer, actBy}
 use Rattle.rules.specs.Asked.{picksIn, spareNode, spareLevel, levelLeft, moveLeft, takes, standsAt, takesLevel, closes, puts, appends, picksHome, moveEnds, setNexts, setPuts, setAppends, setCloses, takesNode, nodeLeft, readsBy}
 use Rattle.rules.proofs.Invariant.{SameSizes}
 use Rattle.rules.proofs.ExcessWords.{same-refl, same-node, same-level, SameMemory, memory-refl, CellBelow, digit-below, same-cell}
-use Rattle.rules.proofs.ExcessRecords.{Roomy, roomy-none, one-move, whole, around, pushed, remembered, forgotten}
+use Rattle.rules.proofs.ExcessRecords.{FitWords, fit-none, one-move, whole, around, pushed, remembered, forgotten}
 
 -- a step that leaves the excess, keeps the sizes, and whose record has room
-pub record Tame (w : ℕ) (s : Settings) (m : Memory) (t : Step) : Type 0 where
+pub record Leaves (w : ℕ) (s : Settings) (m : Memory) (t : Step) : Type 0 where
   pub memory : SameMemory w s m (t .memory)
-  pub moves : Roomy w (t .record′ .moves)
+  pub moves : FitWords w (t .record′ .moves)
   pub sizes : SameSizes s (t .settings)
 
 -- the sizes stay, also where one more node or level is taken
@@ -84,94 +84,94 @@ module _ (w : ℕ) (s : Settings) (q : question3 w s ≡ true) where
 
   -- the steps of searching and moving
   module _ (h : Head) (m : Memory) where
-    writes : {a : Answer} {h′ : Head} {ms : List Move} {m′ : Memory} → SameMemory w s m m′ → Roomy w ms → Tame w s m (step a s h′ ms m′)
+    writes : {a : Answer} {h′ : Head} {ms : List Move} {m′ : Memory} → SameMemory w s m m′ → FitWords w ms → Leaves w s m (step a s h′ ms m′)
     writes k f = record { memory = k; moves = f; sizes = sizes-same s }
 
-    still : {a : Answer} {h′ : Head} {ms : List Move} → Roomy w ms → Tame w s m (step a s h′ ms m)
+    still : {a : Answer} {h′ : Head} {ms : List Move} → FitWords w ms → Leaves w s m (step a s h′ ms m)
     still = writes (memory-refl w s m)
 
-    placed-tame : (k : Kind) (x : Cell) → CellBelow w s x → Tame w s m (searching.placed w k s h x m)
+    placed-leaves : (k : Kind) (x : Cell) → CellBelow w s x → Leaves w s m (searching.placed w k s h x m)
     unfolding searching.placed
-    placed-tame k x b = pick-both (Tame w s m) (expected h _) (λ e. writes (same-cell w s m x _ b) (roomy-none w)) (λ e. still (roomy-none w))
+    placed-leaves k x b = pick-both (Leaves w s m) (expected h _) (λ e. writes (same-cell w s m x _ b) (fit-none w)) (λ e. still (fit-none w))
 
-    met-tame : (c g word : ℕ) → Tame w s m (searching.met s h c g word m)
+    met-leaves : (c g word : ℕ) → Leaves w s m (searching.met s h c g word m)
     unfolding searching.met searching.metNode
-    met-tame c g word =
-        pick-both (Tame w s m) (isNode word)
-        (λ e. pick-both (Tame w s m) (eqb _ (h .pixel)) (λ q. still (roomy-none w)) (λ q. still (roomy-none w)))
-        (λ e. still (roomy-none w))
+    met-leaves c g word =
+        pick-both (Leaves w s m) (isNode word)
+        (λ e. pick-both (Leaves w s m) (eqb _ (h .pixel)) (λ q. still (fit-none w)) (λ q. still (fit-none w)))
+        (λ e. still (fit-none w))
 
     -- a node is filled
-    node-tame : (k : Kind) (s′ : Settings) (i : ℕ) → SameSizes s s′ → i < s .nodes → Tame w s m (withNode k s′ h i m)
+    node-leaves : (k : Kind) (s′ : Settings) (i : ℕ) → SameSizes s s′ → i < s .nodes → Leaves w s m (withNode k s′ h i m)
     unfolding withNode
-    node-tame k s′ i z l =
-        record { memory = record { nodes = same-node (m .nodes) i _ _ l; levels = same-refl _ _ }; moves = roomy-none w; sizes = z }
+    node-leaves k s′ i z l =
+        record { memory = record { nodes = same-node (m .nodes) i _ _ l; levels = same-refl _ _ }; moves = fit-none w; sizes = z }
 
-    take-tame : (k : Kind) → takes s h ≡ true → nodeLeft s h ≡ true → Tame w s m (takeNode k s h m)
+    take-leaves : (k : Kind) → takes s h ≡ true → nodeLeft s h ≡ true → Leaves w s m (takeNode k s h m)
     unfolding takeNode takes spareNode nodeLeft
-    take-tame k t y =
-        pick-both (Tame w s m) (eqb (h .«held_node») 0)
-        (λ e. node-tame k _ (s .«nodes_taken») (sizes-node s) (ltb-true _ _ (sym (pick-true _ _ _ e) ∙ y)))
-        (λ e. node-tame k s (h .«held_node» - 1) (sizes-same s) (spare-below e (leb-true _ _ (both-right _ _ t)) nodes-le))
+    take-leaves k t y =
+        pick-both (Leaves w s m) (eqb (h .«held_node») 0)
+        (λ e. node-leaves k _ (s .«nodes_taken») (sizes-node s) (ltb-true _ _ (sym (pick-true _ _ _ e) ∙ y)))
+        (λ e. node-leaves k s (h .«held_node» - 1) (sizes-same s) (spare-below e (leb-true _ _ (both-right _ _ t)) nodes-le))
 
     -- a level is filled
-    level-tame : (k : Kind) (s′ : Settings) (ms : List Move) (g : ℕ) → SameSizes s s′ → Roomy w ms → g < levelCount w s → Tame w s m (withLevel w k s′ h ms g m)
+    level-leaves : (k : Kind) (s′ : Settings) (ms : List Move) (g : ℕ) → SameSizes s s′ → FitWords w ms → g < levelCount w s → Leaves w s m (withLevel w k s′ h ms g m)
     unfolding withLevel
-    level-tame k s′ ms g z f l =
+    level-leaves k s′ ms g z f l =
         record { memory = record { nodes = same-refl _ _; levels = same-level w (m .levels) g _ _ l }; moves = f; sizes = z }
 
-    take-level-tame : (k : Kind) (ms : List Move) → Roomy w ms → takesLevel w s h (m .levels) ≡ true → Tame w s m (takeLevel w k s h ms m)
+    take-level-leaves : (k : Kind) (ms : List Move) → FitWords w ms → takesLevel w s h (m .levels) ≡ true → Leaves w s m (takeLevel w k s h ms m)
     unfolding takeLevel takesLevel spareLevel levelLeft
-    take-level-tame k ms f t =
+    take-level-leaves k ms f t =
         let t₁ = both-right _ _ t in
-        pick-both (Tame w s m) (eqb (h .«held_level») 0)
-        (λ e. level-tame k _ ms (s .«levels_taken») (sizes-level s) f (ltb-true _ _ (sym (pick-true _ _ _ e) ∙ both-right _ _ (both-right _ _ t₁))))
-        (λ e. level-tame k s ms (h .«held_level» - 1) (sizes-same s) f (spare-below e (leb-true _ _ (both-left _ _ t₁)) levels-le))
+        pick-both (Leaves w s m) (eqb (h .«held_level») 0)
+        (λ e. level-leaves k _ ms (s .«levels_taken») (sizes-level s) f (ltb-true _ _ (sym (pick-true _ _ _ e) ∙ both-right _ _ (both-right _ _ t₁))))
+        (λ e. level-leaves k s ms (h .«held_level» - 1) (sizes-same s) f (spare-below e (leb-true _ _ (both-left _ _ t₁)) levels-le))
 
-    closed-tame : (k : Kind) (ms : List Move) → closes s h ≡ true → Roomy w ms → (expected h (nextAt (m .nodes) (h .node)) ≡ true → Roomy w (newMove (h .level) (h .«held_level» - 1) ∷ ms)) → Tame w s m (closed w k s h ms m)
+    closed-leaves : (k : Kind) (ms : List Move) → closes s h ≡ true → FitWords w ms → (expected h (nextAt (m .nodes) (h .node)) ≡ true → FitWords w (newMove (h .level) (h .«held_level» - 1) ∷ ms)) → Leaves w s m (closed w k s h ms m)
     unfolding closed closes
-    closed-tame k ms t f g =
-        pick-both (Tame w s m) (expected h _)
+    closed-leaves k ms t f g =
+        pick-both (Leaves w s m) (expected h _)
         (λ e. writes (same-cell w s m (Next (h .node)) _ (stands-below h (both-left _ _ t))) (g e))
         (λ e. still f)
 
-    chain-tame : (v : Move) (os : List Move) (word : ℕ) → Roomy w (v ∷ os) → Tame w s m (moving.chainWord s h v os word m)
+    chain-leaves : (v : Move) (os : List Move) (word : ℕ) → FitWords w (v ∷ os) → Leaves w s m (moving.chainWord s h v os word m)
     unfolding moving.chainWord moving.setLast
-    chain-tame v os word f = pick-both (Tame w s m) (isNode word) (λ e. still (remembered w _ f)) (λ e. still f)
+    chain-leaves v os word f = pick-both (Leaves w s m) (isNode word) (λ e. still (remembered w _ f)) (λ e. still f)
 
-    set-tame : (k : Kind) (v : Move) (os : List Move) (x : Cell) → CellBelow w s x → Roomy w (v ∷ os) → Tame w s m (moving.setNode w k s h v os x m)
+    set-leaves : (k : Kind) (v : Move) (os : List Move) (x : Cell) → CellBelow w s x → FitWords w (v ∷ os) → Leaves w s m (moving.setNode w k s h v os x m)
     unfolding moving.setNode moving.setLast
-    set-tame k v os x b f = pick-both (Tame w s m) (expected h _) (λ e. writes (same-cell w s m x _ b) (forgotten w f)) (λ e. still f)
+    set-leaves k v os x b f = pick-both (Leaves w s m) (expected h _) (λ e. writes (same-cell w s m x _ b) (forgotten w f)) (λ e. still f)
 
     -- a Move inside a Move has room where the exchange would be done
-    inside : (ms : List Move) → Roomy w ms → moveLeft w h ms (m .nodes) ≡ true → expected h (nextAt (m .nodes) (h .node)) ≡ true → Roomy w (newMove (h .level) (h .«held_level» - 1) ∷ inner ms ∷ outer ms)
+    inside : (ms : List Move) → FitWords w ms → moveLeft w h ms (m .nodes) ≡ true → expected h (nextAt (m .nodes) (h .node)) ≡ true → FitWords w (newMove (h .level) (h .«held_level» - 1) ∷ inner ms ∷ outer ms)
     unfolding moveLeft
     inside ms f y e = pushed w ms _ _ f (ltb-true _ _ (sym (pick-true _ _ _ e) ∙ y))
 
     -- by kind
-    pub kind-tame : (k : Kind) (ms : List Move) → Roomy w ms → readsBy k w s h ms m ≡ true → pick (takesNode k) (nodeLeft s h) true ≡ true → Tame w s m (actBy k w s h ms m)
+    pub kind-leaves : (k : Kind) (ms : List Move) → FitWords w ms → readsBy k w s h ms m ≡ true → pick (takesNode k) (nodeLeft s h) true ≡ true → Leaves w s m (actBy k w s h ms m)
     unfolding actBy readsBy takesNode kindNo pick searching.look searching.take searching.put searching.entryOf searching.read searching.readWord searching.tail searching.takeTail searching.append searching.level searching.close searching.follow searching.followWord moving.chainHead moving.chainNext moving.setNext moving.setLook moving.setPut moving.setCellOf moving.setRead moving.setReadWord moving.setMet moving.setTail moving.setAppend moving.setLevel moving.setClose moving.setFollow moving.setFollowWord moving.moveEnd moving.homeCell puts appends setNexts setPuts setAppends setCloses moveEnds picksHome
-    kind-tame Idle ms f y n = still f
-    kind-tame Look ms f y n = still (roomy-none w)
-    kind-tame Take ms f y n = take-tame Put y n
-    kind-tame Put ms f y n = placed-tame Read _ (entry-below _ _ _ (both-left _ _ y))
-    kind-tame Read ms f y n = met-tame _ _ _
-    kind-tame Tail ms f y n = still (roomy-none w)
-    kind-tame TakeTail ms f y n = take-tame Append y n
-    kind-tame Append ms f y n = placed-tame Follow (Next (h .node)) (stands-below h (both-left _ _ y))
-    kind-tame Level ms f y n = take-level-tame Close [] (roomy-none w) y
-    kind-tame Close ms f y n = closed-tame Follow [] y (roomy-none w) (λ e. one-move w _ _)
-    kind-tame Follow ms f y n = met-tame _ _ _
-    kind-tame ChainHead ms f y n = chain-tame _ _ _ (whole w ms f)
-    kind-tame ChainNext ms f y n = chain-tame _ _ _ (whole w ms f)
-    kind-tame SetNext ms f y n = writes (same-cell w s m (Next (lastNode (inner ms))) _ (node-below (both-left _ _ y))) (whole w ms f)
-    kind-tame SetLook ms f y n = still (whole w ms f)
-    kind-tame SetPut ms f y n = set-tame SetRead _ _ _ (entry-below _ _ _ (both-left _ _ y)) (whole w ms f)
-    kind-tame SetRead ms f y n = still (whole w ms f)
-    kind-tame SetTail ms f y n = still (whole w ms f)
-    kind-tame SetAppend ms f y n = set-tame SetFollow _ _ (Next (h .node)) (stands-below h (both-left _ _ y)) (whole w ms f)
-    kind-tame SetLevel ms f y n = take-level-tame SetClose _ (whole w ms f) y
-    kind-tame SetClose ms f y n = closed-tame SetFollow _ (both-left _ _ y) (whole w ms f) (inside ms f (both-right _ _ y))
-    kind-tame SetFollow ms f y n = still (whole w ms f)
-    kind-tame MoveEnd ms f y n = writes (same-cell w s m _ _ (entry-below _ _ _ (both-left _ _ (both-left _ _ y)))) (around w ms f)
-    kind-tame Unknown ms f y n = still f
+    kind-leaves Idle ms f y n = still f
+    kind-leaves Look ms f y n = still (fit-none w)
+    kind-leaves Take ms f y n = take-leaves Put y n
+    kind-leaves Put ms f y n = placed-leaves Read _ (entry-below _ _ _ (both-left _ _ y))
+    kind-leaves Read ms f y n = met-leaves _ _ _
+    kind-leaves Tail ms f y n = still (fit-none w)
+    kind-leaves TakeTail ms f y n = take-leaves Append y n
+    kind-leaves Append ms f y n = placed-leaves Follow (Next (h .node)) (stands-below h (both-left _ _ y))
+    kind-leaves Level ms f y n = take-level-leaves Close [] (fit-none w) y
+    kind-leaves Close ms f y n = closed-leaves Follow [] y (fit-none w) (λ e. one-move w _ _)
+    kind-leaves Follow ms f y n = met-leaves _ _ _
+    kind-leaves ChainHead ms f y n = chain-leaves _ _ _ (whole w ms f)
+    kind-leaves ChainNext ms f y n = chain-leaves _ _ _ (whole w ms f)
+    kind-leaves SetNext ms f y n = writes (same-cell w s m (Next (lastNode (inner ms))) _ (node-below (both-left _ _ y))) (whole w ms f)
+    kind-leaves SetLook ms f y n = still (whole w ms f)
+    kind-leaves SetPut ms f y n = set-leaves SetRead _ _ _ (entry-below _ _ _ (both-left _ _ y)) (whole w ms f)
+    kind-leaves SetRead ms f y n = still (whole w ms f)
+    kind-leaves SetTail ms f y n = still (whole w ms f)
+    kind-leaves SetAppend ms f y n = set-leaves SetFollow _ _ (Next (h .node)) (stands-below h (both-left _ _ y)) (whole w ms f)
+    kind-leaves SetLevel ms f y n = take-level-leaves SetClose _ (whole w ms f) y
+    kind-leaves SetClose ms f y n = closed-leaves SetFollow _ (both-left _ _ y) (whole w ms f) (inside ms f (both-right _ _ y))
+    kind-leaves SetFollow ms f y n = still (whole w ms f)
+    kind-leaves MoveEnd ms f y n = writes (same-cell w s m _ _ (entry-below _ _ _ (both-left _ _ (both-left _ _ y)))) (around w ms f)
+    kind-leaves Unknown ms f y n = still f

@@ -22,12 +22,12 @@ use Rattle.rules.specs.Acts.{inner, outer}
 use Rattle.rules.specs.Excess.{SameFrom}
 
 -- Moves that a worker's words have room for
-pub record Roomy (w : ℕ) (ms : List Move) : Type 0 where
+pub record FitWords (w : ℕ) (ms : List Move) : Type 0 where
   pub sized : AllSized ms
   pub room : headWords + moveWords * length ms ≤ workerWords w
 
 -- the record of one of the first n workers
-pub same-store : (w : ℕ) {n : ℕ} (r : Record) (i : ℕ) (l : List ℕ) → Roomy w (r .moves) → i < n → SameFrom (workerWords w * n) l (store w r i l)
+pub same-store : (w : ℕ) {n : ℕ} (r : Record) (i : ℕ) (l : List ℕ) → FitWords w (r .moves) → i < n → SameFrom (workerWords w * n) l (store w r i l)
 unfolding store workerPlace
 same-store w {n} r i l f h =
     let t = place-next w h in
@@ -40,12 +40,12 @@ same-store w {n} r i l f h =
     }
 
 -- no Move
-pub roomy-none : (w : ℕ) → Roomy w []
-roomy-none w = record { sized = tt; room = let r = room w in omega arith }
+pub fit-none : (w : ℕ) → FitWords w []
+fit-none w = record { sized = tt; room = let r = room w in omega arith }
 
 -- as many as may be one inside another
-pub roomy-few : (w : ℕ) (ms : List Move) → AllSized ms → length ms ≤ maxMoves w → Roomy w ms
-roomy-few w ms z l = record { sized = z; room = let r = room w in omega arith }
+pub fit-few : (w : ℕ) (ms : List Move) → AllSized ms → length ms ≤ maxMoves w → FitWords w ms
+fit-few w ms z l = record { sized = z; room = let r = room w in omega arith }
 
 -- a record that fits, of a worker that is not idle, has few enough
 pub few-moves : (w : ℕ) (s : Settings) (k : ℕ) (r : Record) → eqb k 0 ≡ false → fitsBy w s k r ≡ true → length (r .moves) ≤ maxMoves w
@@ -65,34 +65,34 @@ unfolding workerWords
 at-least w = omega arith
 
 module _ (w : ℕ) where
-  pub one-move : (home child : ℕ) → Roomy w (newMove home child ∷ [])
+  pub one-move : (home child : ℕ) → FitWords w (newMove home child ∷ [])
   one-move home child = record { sized = (new-sized home child, tt); room = let b = at-least w in omega arith }
 
   -- the innermost Move and those around it
-  pub whole : (ms : List Move) → Roomy w ms → Roomy w (inner ms ∷ outer ms)
+  pub whole : (ms : List Move) → FitWords w ms → FitWords w (inner ms ∷ outer ms)
   unfolding inner outer
   whole [] f = one-move 0 0
   whole (v ∷ os) f = f
 
-  pub around : (ms : List Move) → Roomy w ms → Roomy w (outer ms)
+  pub around : (ms : List Move) → FitWords w ms → FitWords w (outer ms)
   unfolding outer
   around [] f = f
   around (v ∷ os) f = record { sized = f .sized .1; room = let r = f .room in omega arith }
 
   -- one Move more
-  pub pushed : (ms : List Move) (home child : ℕ) → Roomy w ms → length ms < maxMoves w → Roomy w (newMove home child ∷ inner ms ∷ outer ms)
+  pub pushed : (ms : List Move) (home child : ℕ) → FitWords w ms → length ms < maxMoves w → FitWords w (newMove home child ∷ inner ms ∷ outer ms)
   unfolding inner outer
   pushed [] home child f l = record { sized = (new-sized home child, (new-sized 0 0, tt)); room = let b = at-least w in omega arith }
   pushed (v ∷ os) home child f l = record { sized = (new-sized home child, f .sized); room = let r = room w in omega arith }
 
   -- the innermost Move with as many words
-  changed : {v v′ : Move} {os : List Move} → length (v′ .nodes) ≡ length (v .nodes) → Roomy w (v ∷ os) → Roomy w (v′ ∷ os)
+  changed : {v v′ : Move} {os : List Move} → length (v′ .nodes) ≡ length (v .nodes) → FitWords w (v ∷ os) → FitWords w (v′ ∷ os)
   changed e f = record { sized = (e ∙ f .sized .0, f .sized .1); room = f .room }
 
-  pub remembered : {v : Move} {os : List Move} (i : ℕ) → Roomy w (v ∷ os) → Roomy w (remember i v ∷ os)
+  pub remembered : {v : Move} {os : List Move} (i : ℕ) → FitWords w (v ∷ os) → FitWords w (remember i v ∷ os)
   unfolding remember
   remembered {v} i = changed (length-set (v .nodes) (v .count) i)
 
-  pub forgotten : {v : Move} {os : List Move} → Roomy w (v ∷ os) → Roomy w (forget v ∷ os)
+  pub forgotten : {v : Move} {os : List Move} → FitWords w (v ∷ os) → FitWords w (forget v ∷ os)
   unfolding forget
   forgotten = changed refl
