@@ -28,7 +28,7 @@ use Rattle.rules.specs.Steps.{Step, step, expected, tookNode, tookLevel,
 use Rattle.rules.specs.Searching as searching
 use Rattle.rules.specs.Moving as moving
 use Rattle.rules.specs.Acts.{inner, outer, actBy}
-use Rattle.rules.specs.Asked.{picksIn, spareNode, spareLevel, levelLeft, moveLeft, takes, standsAt, takesLevel, closes, puts, appends, picksHome, moveEnds, setNexts, setPuts, setAppends, setCloses, takesNode, nodeLeft, readsBy}
+use Rattle.rules.specs.Asked.{picksIn, spare, levelLeft, moveLeft, takes, standsAt, takesLevel, closes, puts, appends, picksHome, moveEnds, setNexts, setPuts, setAppends, setCloses, takesNode, nodeLeft, readsBy}
 use Rattle.rules.proofs.Invariant.{SameSizes}
 use Rattle.rules.proofs.ExcessWords.{same-refl, same-node, same-level, SameMemory, memory-refl, CellBelow, digit-below, same-cell}
 use Rattle.rules.proofs.ExcessRecords.{FitWords, fit-none, one-move, whole, around, pushed, remembered, forgotten}
@@ -108,7 +108,7 @@ module _ (w : ℕ) (s : Settings) (q : question3 w s ≡ true) where
         record { memory = record { nodes = same-node (m .nodes) i _ _ l; levels = same-refl _ _ }; moves = fit-none w; sizes = z }
 
     take-leaves : (k : Kind) → takes s h ≡ true → nodeLeft s h ≡ true → Leaves w s m (takeNode k s h m)
-    unfolding takeNode takes spareNode nodeLeft
+    unfolding takeNode takes spare nodeLeft
     take-leaves k t y =
         pick-both (Leaves w s m) (eqb (h .«held_node») 0)
         (λ e. node-leaves k _ (s .«nodes_taken») (sizes-node s) (ltb-true _ _ (sym (pick-true _ _ _ e) ∙ y)))
@@ -121,7 +121,7 @@ module _ (w : ℕ) (s : Settings) (q : question3 w s ≡ true) where
         record { memory = record { nodes = same-refl _ _; levels = same-level w (m .levels) g _ _ l }; moves = f; sizes = z }
 
     take-level-leaves : (k : Kind) (ms : List Move) → FitWords w ms → takesLevel w s h (m .levels) ≡ true → Leaves w s m (takeLevel w k s h ms m)
-    unfolding takeLevel takesLevel spareLevel levelLeft
+    unfolding takeLevel takesLevel spare levelLeft
     take-level-leaves k ms f t =
         let t₁ = both-right _ _ t in
         pick-both (Leaves w s m) (eqb (h .«held_level») 0)

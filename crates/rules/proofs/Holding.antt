@@ -11,7 +11,7 @@ use Rattle.settings.specs.Sizes.{levelCount}
 use Rattle.settings.specs.declared.Settings.{Settings}
 use Rattle.areas.specs.Memory.{Memory}
 use Rattle.record.specs.Layout.{Record}
-use Rattle.rules.specs.Asked.{nodeInHand, spareNode, levelInHand, spareLevel}
+use Rattle.rules.specs.Asked.{inHand, spare}
 use Rattle.trie.proofs.Fresh.{owned-taken}
 use Rattle.trie.proofs.Levels.{one-left}
 use Rattle.trie.proofs.Whole.{Worker, owner}
@@ -45,21 +45,21 @@ module _ {w : ℕ} {s₀ s : Settings} {m : Memory} {W : WorldOf w s₀} {ws : �
   level-le = held-le (r .head .«held_level») (s .«levels_taken») (λ n e. owned-taken (a .table .levels-fresh) n (level-owned (sym (a .matches .level-is) ∙ e)))
 
   -- a spare one, if any
-  pub spare-node-ok : spareNode s (r .head) ≡ true
-  unfolding spareNode
+  pub spare-node-ok : spare (r .head .«held_node») (s .«nodes_taken») ≡ true
+  unfolding spare
   spare-node-ok = le-leb _ _ node-le
 
-  pub spare-level-ok : spareLevel s (r .head) ≡ true
-  unfolding spareLevel
+  pub spare-level-ok : spare (r .head .«held_level») (s .«levels_taken») ≡ true
+  unfolding spare
   spare-level-ok = le-leb _ _ level-le
 
   -- one in hand
-  pub node-hand-ok : {n : ℕ} → ws i .node ≡ suc n → nodeInHand s (r .head) ≡ true
-  unfolding nodeInHand
+  pub node-hand-ok : {n : ℕ} → ws i .node ≡ suc n → inHand (r .head .«held_node») (s .«nodes_taken») ≡ true
+  unfolding inHand
   node-hand-ok e = let h = a .matches .node-is ∙ e in both-true (le-leb 1 (r .head .«held_node») (omega arith)) (le-leb _ _ node-le)
 
-  pub level-hand-ok : {g : ℕ} → ws i .level ≡ suc g → levelInHand s (r .head) ≡ true
-  unfolding levelInHand
+  pub level-hand-ok : {g : ℕ} → ws i .level ≡ suc g → inHand (r .head .«held_level») (s .«levels_taken») ≡ true
+  unfolding inHand
   level-hand-ok e = let h = a .matches .level-is ∙ e in both-true (le-leb 1 (r .head .«held_level») (omega arith)) (le-leb _ _ level-le)
 
   -- a worker that holds no level finds one left

@@ -38,21 +38,13 @@ question5 row column = both (leb row maxSide) (leb column maxSide)
 
 -- the parts of question 6
 
--- a node or level in hand: there is one, and it is taken; a spare one may be missing
-unfoldable pub nodeInHand : Settings → Head → Bool
-nodeInHand s h = both (leb 1 (h .«held_node»)) (leb (h .«held_node») (s .«nodes_taken»))
+-- Put, Append, Close: a node or level in hand, by its number + 1: there is one, and it is taken
+unfoldable pub inHand : ℕ → ℕ → Bool
+inHand held taken = both (leb 1 held) (leb held taken)
 
--- Take: the spare node, if there is one
-unfoldable pub spareNode : Settings → Head → Bool
-spareNode s h = leb (h .«held_node») (s .«nodes_taken»)
-
--- Close: the level in hand
-unfoldable pub levelInHand : Settings → Head → Bool
-levelInHand s h = both (leb 1 (h .«held_level»)) (leb (h .«held_level») (s .«levels_taken»))
-
--- Level: the spare level, if there is one
-unfoldable pub spareLevel : Settings → Head → Bool
-spareLevel s h = leb (h .«held_level») (s .«levels_taken»)
+-- Take, Level: a spare node or level, by its number + 1: it is taken, or there is none
+unfoldable pub spare : ℕ → ℕ → Bool
+spare held taken = leb held taken
 
 -- level g is taken, and "depths .. at most 7": an entry is picked in it
 unfoldable pub picksIn : ℕ → Settings → ℕ → List ℕ → Bool
@@ -95,7 +87,7 @@ keyFits s (o ∷ os) nodes = pixelFits s (lastNode o) nodes
 
 -- Take, TakeTail
 unfoldable pub takes : Settings → Head → Bool
-takes s h = both (levelTaken s (h .level)) (spareNode s h)
+takes s h = both (levelTaken s (h .level)) (spare (h .«held_node») (s .«nodes_taken»))
 
 -- Tail, SetTail: the level, R, and R's next
 unfoldable pub standsAt : Settings → Head → Bool
@@ -107,11 +99,11 @@ tails s h nodes = both (standsAt s h) (refTaken s (nextAt nodes (h .node)))
 
 -- Level, SetLevel
 unfoldable pub takesLevel : ℕ → Settings → Head → List ℕ → Bool
-takesLevel w s h levels = both (levelTaken s (h .level)) (both (spareLevel s h) (levelLeft w s h levels))
+takesLevel w s h levels = both (levelTaken s (h .level)) (both (spare (h .«held_level») (s .«levels_taken»)) (levelLeft w s h levels))
 
 -- Close, SetClose
 unfoldable pub closes : Settings → Head → Bool
-closes s h = both (standsAt s h) (levelInHand s h)
+closes s h = both (standsAt s h) (inHand (h .«held_level») (s .«levels_taken»))
 
 -- Look, Read, Put: the entry of K in H
 unfoldable pub looks : ℕ → Settings → Head → Memory → Bool
@@ -119,7 +111,7 @@ looks w s h m = both (picksIn w s (h .level) (m .levels)) (readsRef w s (entryOf
 
 -- Put: H, and the node in hand; the exchange reads no reference
 unfoldable pub puts : ℕ → Settings → Head → List ℕ → Bool
-puts w s h levels = both (picksIn w s (h .level) levels) (nodeInHand s h)
+puts w s h levels = both (picksIn w s (h .level) levels) (inHand (h .«held_node») (s .«nodes_taken»))
 
 -- Read: H, the entry, and the pixel of a node in it
 unfoldable pub reads : ℕ → Settings → Head → Memory → Bool
@@ -127,7 +119,7 @@ reads w s h m = both (picksIn w s (h .level) (m .levels)) (comparesRef s (cellAt
 
 -- Append: H and R, and the node in hand
 unfoldable pub appends : Settings → Head → Bool
-appends s h = both (standsAt s h) (nodeInHand s h)
+appends s h = both (standsAt s h) (inHand (h .«held_node») (s .«nodes_taken»))
 
 -- Follow: H and R, R's next, the pixel of a node there, the way back from a level
 unfoldable pub follows : ℕ → Settings → Head → Memory → Bool

@@ -18,7 +18,7 @@ use Rattle.areas.specs.declared.Cell.{Cell}
 use Rattle.areas.specs.Memory.{Memory, isNode, named, depthAt, cellAt, levelTaken, refTaken}
 use Rattle.record.specs.declared.Head.{Head}
 use Rattle.rules.specs.Steps.{backMeets}
-use Rattle.rules.specs.Asked.{nodeInHand, levelInHand, spareLevel, pixelFits, readsRef, comparesRef, goesBack, levelLeft, standsAt, takesLevel, closes}
+use Rattle.rules.specs.Asked.{inHand, spare, pixelFits, readsRef, comparesRef, goesBack, levelLeft, standsAt, takesLevel, closes}
 
 -- two tests
 pub ask-both : {r a b c d : Bool} → r ≡ both a b → b ≡ d → a ≡ c → r ≡ both c d
@@ -113,32 +113,32 @@ held-most s n e z =
 
 module _ (s : Settings) (h : Head) {r : Bool} where
   -- a node in hand, after any test: Put, Append
-  pub in-hand-one : (b : Bool) → r ≡ both b (nodeInHand s h) → r ≡ true → 1 ≤ h .«held_node»
-  unfolding nodeInHand
+  pub in-hand-one : (b : Bool) → r ≡ both b (inHand (h .«held_node») (s .«nodes_taken»)) → r ≡ true → 1 ≤ h .«held_node»
+  unfolding inHand
   in-hand-one b a e = leb-true _ _ (both-left _ _ (both-right b _ (via a e)))
 
-  pub in-hand-most : (b : Bool) → r ≡ both b (nodeInHand s h) → r ≡ true → Sized s → h .«held_node» ≤ 4096
-  unfolding nodeInHand
+  pub in-hand-most : (b : Bool) → r ≡ both b (inHand (h .«held_node») (s .«nodes_taken»)) → r ≡ true → Sized s → h .«held_node» ≤ 4096
+  unfolding inHand
   in-hand-most b a e z = node-most s (h .«held_node») (both-right (leb 1 (h .«held_node»)) _ (both-right b _ (via a e))) z
 
   -- a level in hand: Close, SetClose
   pub closes-one : r ≡ closes s h → r ≡ true → 1 ≤ h .«held_level»
-  unfolding closes levelInHand
+  unfolding closes inHand
   closes-one a e = leb-true _ _ (both-left _ _ (both-right (standsAt s h) _ (via a e)))
 
   pub closes-most : r ≡ closes s h → r ≡ true → Sized s → h .«held_level» ≤ 28689
-  unfolding closes levelInHand
+  unfolding closes inHand
   closes-most a e z = held-most s (h .«held_level») (both-right (leb 1 (h .«held_level»)) _ (both-right (standsAt s h) _ (via a e))) z
 
   -- a level is taken: Level, SetLevel
   pub takes-held-level : (levels : List ℕ) → r ≡ takesLevel 3 s h levels → r ≡ true → Sized s → h .«held_level» ≤ 28689
-  unfolding takesLevel spareLevel
+  unfolding takesLevel spare
   takes-held-level levels a e z =
       held-most s (h .«held_level») (both-left _ _ (both-right (levelTaken s (h .level)) _ (via a e))) z
 
   pub takes-deep : (levels : List ℕ) → r ≡ takesLevel 3 s h levels → r ≡ true → depthAt 3 levels (h .level) ≤ 6
   unfolding takesLevel levelLeft depths
   takes-deep levels a e =
-      let b = both-right (spareLevel s h) _ (both-right (levelTaken s (h .level)) _ (via a e)) in
+      let b = both-right (spare (h .«held_level») (s .«levels_taken»)) _ (both-right (levelTaken s (h .level)) _ (via a e)) in
       let d : depthAt 3 levels (h .level) + 1 ≤ 7 = leb-true _ _ (both-left _ _ b) in
       omega arith

@@ -7,7 +7,7 @@ ghost use Rattle.settings.specs.Cut.{Sized};
 ghost use Rattle.areas.specs.Memory.{memory, depthAt};
 ghost use Rattle.rules.specs.Heads.{to, toLevel, toNode, holdingNode, holdingLevel, ended};
 ghost use Rattle.rules.specs.Steps.{peeked, byCount, more, tookNode, tookLevel, childOf, backMeets};
-ghost use Rattle.rules.specs.Asked.{nodeInHand, levelInHand, picksIn, pixelFits, readsRef, comparesRef, goesBack, levelLeft, standsAt, tails, takesLevel, closes};
+ghost use Rattle.rules.specs.Asked.{inHand, picksIn, pixelFits, readsRef, comparesRef, goesBack, levelLeft, standsAt, tails, takesLevel, closes};
 ghost use Rattle.steps.specs.Cut.{levelCut, levelNo, levelCounted, takeLevelCut, closeCut, closedCut};
 use areas::Cell;
 use areas::cell_at;
@@ -98,10 +98,10 @@ pub fn took_node(s: Settings) -> Settings
 }
 
 // Question 6, in the parts that the kinds share.
-pub fn node_in_hand(s: Settings, h: Head) -> bool
-    ensures { λ r. ⌜ r ≡ nodeInHand s h ⌝ }
+pub fn in_hand(held: u32, taken: u32) -> bool
+    ensures { λ r. ⌜ r ≡ inHand held taken ⌝ }
 {
-    and(le(1, h.held_node), le(h.held_node, s.nodes_taken))
+    and(le(1, held), le(held, taken))
 }
 
 pub fn picks_in(s: Settings, g: u32, levels: &[u32]) -> bool
@@ -223,12 +223,6 @@ fn back_meets(taken: u32, levels: &[u32], g: u32, t: u32) -> bool
     false
 }
 
-fn level_in_hand(s: Settings, h: Head) -> bool
-    ensures { λ r. ⌜ r ≡ levelInHand s h ⌝ }
-{
-    and(le(1, h.held_level), le(h.held_level, s.levels_taken))
-}
-
 pub fn goes_back(taken: u32, level: u32, word: u32, levels: &[u32]) -> bool
     ensures { λ r. ⌜ r ≡ goesBack 3 taken level word (now (levels .entry)) ⌝ }
 {
@@ -277,7 +271,7 @@ pub fn takes_level(s: Settings, h: Head, levels: &[u32]) -> bool
 pub fn closes(s: Settings, h: Head) -> bool
     ensures { λ r. ⌜ r ≡ closes s h ⌝ }
 {
-    and(stands_at(s, h), level_in_hand(s, h))
+    and(stands_at(s, h), in_hand(h.held_level, s.levels_taken))
 }
 
 // The level that Level and SetLevel take: the spare one, else the next number.

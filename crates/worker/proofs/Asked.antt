@@ -11,7 +11,7 @@ use Rattle.settings.specs.declared.Settings.{Settings}
 use Rattle.settings.specs.Cut.{Sized}
 use Rattle.areas.specs.Memory.{levelTaken}
 use Rattle.record.specs.declared.Head.{Head}
-use Rattle.rules.specs.Asked.{spareNode, comparesRef, goesBack, nodeLeft, takes}
+use Rattle.rules.specs.Asked.{spare, comparesRef, goesBack, nodeLeft, takes}
 use Rattle.steps.proofs.Asked.{level-most, node-most}
 
 module _ (s : Settings) (h : Head) where
@@ -38,5 +38,5 @@ module _ (s : Settings) (h : Head) {r : Bool} where
   takes-level a e z = level-most s (h .level) (both-left _ _ (via a e)) z
 
   pub takes-held : r ≡ takes s h → r ≡ true → Sized s → h .«held_node» ≤ 4096
-  unfolding takes spareNode
+  unfolding takes spare
   takes-held a e z = node-most s (h .«held_node») (both-right (levelTaken s (h .level)) _ (via a e)) z

@@ -38,8 +38,8 @@ use steps::ended;
 use steps::goes_back;
 use steps::holding_level;
 use steps::holding_node;
+use steps::in_hand;
 use steps::more;
-use steps::node_in_hand;
 use steps::peeked;
 use steps::picks_in;
 use steps::reads_ref;
@@ -237,7 +237,10 @@ fn takes(s: Settings, h: Head) -> bool
 fn puts(s: Settings, h: Head, levels: &[u32]) -> bool
     ensures { λ r. ⌜ r ≡ puts 3 s h (now (levels .entry)) ⌝ }
 {
-    and(picks_in(s, h.level, levels), node_in_hand(s, h))
+    and(
+        picks_in(s, h.level, levels),
+        in_hand(h.held_node, s.nodes_taken),
+    )
 }
 
 fn reads(s: Settings, h: Head, word: u32, nodes: &[u32], levels: &[u32]) -> bool
@@ -250,7 +253,7 @@ fn reads(s: Settings, h: Head, word: u32, nodes: &[u32], levels: &[u32]) -> bool
 fn appends(s: Settings, h: Head) -> bool
     ensures { λ r. ⌜ r ≡ appends s h ⌝ }
 {
-    and(stands_at(s, h), node_in_hand(s, h))
+    and(stands_at(s, h), in_hand(h.held_node, s.nodes_taken))
 }
 
 fn follows(s: Settings, h: Head, nodes: &[u32], levels: &[u32]) -> bool

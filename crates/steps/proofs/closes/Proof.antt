@@ -9,8 +9,8 @@ use Rattle.steps.proofs.closes.Tie as tie
 stands-at-requires : tie.Need-stands-at-requires
 stands-at-requires c κs = search needs
 
-level-in-hand-requires : tie.Need-level-in-hand-requires
-level-in-hand-requires c κs = search needs
+in-hand-requires : tie.Need-in-hand-requires
+in-hand-requires c κs = search needs
 
 and-requires : tie.Need-and-requires
 and-requires c κs = search needs
@@ -24,6 +24,6 @@ closes-spec =
     tie.close
     (tie.spec
     stands-at-requires
-    level-in-hand-requires
+    in-hand-requires
     and-requires
     returns)

@@ -1,7 +1,7 @@
 -- `steps::takes_level` meets its contract.
 -- Relies on Asked.
 use Rattle.steps.proofs.Asked.{ask-both}
-use Rattle.rules.specs.Asked.{takesLevel, spareLevel}
+use Rattle.rules.specs.Asked.{takesLevel, spare}
 use borrow.Author.Needs.{needs}
 use Rattle.steps.proofs.takes_level.Statement.{statement}
 use Rattle.steps.proofs.takes_level.Tie as tie
@@ -22,7 +22,7 @@ and-requires-2 : tie.Need-and-requires-2
 and-requires-2 c κs = search needs
 
 returns : tie.Need-returns
-unfolding takesLevel spareLevel
+unfolding takesLevel spare
 returns c = search (needs, ask-both)
 
 pub takes-level-spec : {M : Type 1} → statement M

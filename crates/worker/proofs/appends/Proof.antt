@@ -9,8 +9,8 @@ use Rattle.worker.proofs.appends.Tie as tie
 stands-at-requires : tie.Need-stands-at-requires
 stands-at-requires c κs = search needs
 
-node-in-hand-requires : tie.Need-node-in-hand-requires
-node-in-hand-requires c κs = search needs
+in-hand-requires : tie.Need-in-hand-requires
+in-hand-requires c κs = search needs
 
 and-requires : tie.Need-and-requires
 and-requires c κs = search needs
@@ -24,6 +24,6 @@ appends-spec =
     tie.close
     (tie.spec
     stands-at-requires
-    node-in-hand-requires
+    in-hand-requires
     and-requires
     returns)

@@ -9,8 +9,8 @@ use Rattle.worker.proofs.puts.Tie as tie
 picks-in-requires : tie.Need-picks-in-requires
 picks-in-requires c κs = search needs
 
-node-in-hand-requires : tie.Need-node-in-hand-requires
-node-in-hand-requires c κs = search needs
+in-hand-requires : tie.Need-in-hand-requires
+in-hand-requires c κs = search needs
 
 and-requires : tie.Need-and-requires
 and-requires c κs = search needs
@@ -24,6 +24,6 @@ puts-spec =
     tie.close
     (tie.spec
     picks-in-requires
-    node-in-hand-requires
+    in-hand-requires
     and-requires
     returns)

@@ -1,7 +1,7 @@
 -- `worker::takes` meets its contract.
 -- Relies on the laws of steps.
 use Rattle.steps.proofs.Asked.{ask-both}
-use Rattle.rules.specs.Asked.{takes, spareNode}
+use Rattle.rules.specs.Asked.{takes, spare}
 use borrow.Author.Needs.{needs}
 use Rattle.worker.proofs.takes.Statement.{statement}
 use Rattle.worker.proofs.takes.Tie as tie
@@ -16,7 +16,7 @@ and-requires : tie.Need-and-requires
 and-requires c κs = search needs
 
 returns : tie.Need-returns
-unfolding takes spareNode
+unfolding takes spare
 returns c = search (needs, ask-both)
 
 pub takes-spec : {M : Type 1} → statement M

@@ -1,10 +1,10 @@
--- `steps::level_in_hand` meets its contract.
+-- `steps::in_hand` meets its contract.
 -- Relies on Asked.
 use Rattle.steps.proofs.Asked.{ask-both}
-use Rattle.rules.specs.Asked.{levelInHand}
+use Rattle.rules.specs.Asked.{inHand}
 use borrow.Author.Needs.{needs}
-use Rattle.steps.proofs.level_in_hand.Statement.{statement}
-use Rattle.steps.proofs.level_in_hand.Tie as tie
+use Rattle.steps.proofs.in_hand.Statement.{statement}
+use Rattle.steps.proofs.in_hand.Tie as tie
 
 le-requires : tie.Need-le-requires
 le-requires c κs = search needs
@@ -16,11 +16,11 @@ and-requires : tie.Need-and-requires
 and-requires c κs = search needs
 
 returns : tie.Need-returns
-unfolding levelInHand
+unfolding inHand
 returns c = search (needs, ask-both)
 
-pub level-in-hand-spec : {M : Type 1} → statement M
-level-in-hand-spec =
+pub in-hand-spec : {M : Type 1} → statement M
+in-hand-spec =
     tie.close
     (tie.spec
     le-requires
