@@ -25,7 +25,7 @@ use Rattle.rules.specs.Asked.{remembers, picksIn, pixelFits, readsRef, goesBack
 use Rattle.steps.proofs.Asked.{level-most, closes-one, closes-most}
 use Rattle.mover.specs.declared.Inner.{Inner}
 use Rattle.mover.specs.declared.Mover.{Mover}
-use Rattle.mover.specs.Cut.{rememberIn, wordInner, keyCut, homeCut, keyFitsCut, picksHomeCut, roomIn, wordAsked, setCellCut, setNextsCut, setPutsCut, setLooksCut, setAppendsCut, moveEndsCut, moveLeftCut, setClosesCut}
+use Rattle.mover.specs.Cut.{rememberIn, wordInner, keyCut, homeCut, keyFitsCut, picksHomeCut, roomIn, wordAsked, moveEndsCut, moveLeftCut, setClosesCut}
 use Rattle.mover.specs.Moved.{outerNode, Around}
 
 -- room to remember the word read
@@ -48,14 +48,14 @@ module _ (s : Settings) (v : Inner) (word : ℕ) where
       (λ q. h)
 
 -- the pixel of the node that is set, and its entry
-pub cell-way : (w : ℕ) (h : Head) (n : ℕ) (nodes levels : List ℕ) {x : Cell} {p : ℕ} → x ≡ entryCell w levels (h .level) p → p ≡ pixelAt nodes n → x ≡ setCellCut w h n (memory nodes levels)
-unfolding setCellCut
+pub cell-way : (w : ℕ) (h : Head) (n : ℕ) (nodes levels : List ℕ) {x : Cell} {p : ℕ} → x ≡ entryCell w levels (h .level) p → p ≡ pixelAt nodes n → x ≡ setCellOf w h n (memory nodes levels)
+unfolding setCellOf
 cell-way w h n nodes levels a b = simp (a, b)
 
 pub looks-way :
     (w : ℕ) (s : Settings) (h : Head) (n : ℕ) (m : Memory) {r a b : Bool} {x : Cell}
-    → r ≡ both a b → a ≡ setPutsCut w s h n m → b ≡ readsRef w s x m → x ≡ setCellCut w h n m → r ≡ setLooksCut w s h n m
-unfolding setLooksCut
+    → r ≡ both a b → a ≡ setPuts w s h n m → b ≡ readsRef w s x m → x ≡ setCellOf w h n m → r ≡ setLooks w s h n m
+unfolding setLooks
 looks-way w s h n m p q e f = simp (p, q, e, f)
 
 -- a test, and a word that is followed
@@ -108,16 +108,16 @@ node-below s i e z =
     omega arith
 
 module _ (s : Settings) (h : Head) (n : ℕ) {r : Bool} where
-  pub nexts-level : r ≡ setNextsCut s h n → r ≡ true → Sized s → h .level ≤ 28689
-  unfolding setNextsCut
+  pub nexts-level : r ≡ setNexts s h n → r ≡ true → Sized s → h .level ≤ 28689
+  unfolding setNexts
   nexts-level a e z = level-most s (h .level) (both-right (nodeTaken s n) _ (via a e)) z
 
-  pub puts-last : (w : ℕ) (m : Memory) → r ≡ setPutsCut w s h n m → r ≡ true → Sized s → n ≤ 4096
-  unfolding setPutsCut pixelFits
+  pub puts-last : (w : ℕ) (m : Memory) → r ≡ setPuts w s h n m → r ≡ true → Sized s → n ≤ 4096
+  unfolding setPuts pixelFits
   puts-last w m a e z = node-below s n (both-left _ _ (both-right (picksIn w s (h .level) (m .levels)) _ (via a e))) z
 
-  pub appends-last : r ≡ setAppendsCut s h n → r ≡ true → Sized s → n ≤ 4096
-  unfolding setAppendsCut
+  pub appends-last : r ≡ setAppends s h n → r ≡ true → Sized s → n ≤ 4096
+  unfolding setAppends
   appends-last a e z = node-below s n (both-right (standsAt s h) _ (via a e)) z
 
 module _ (w : ℕ) (s : Settings) (v : Mover) {r : Bool} where
@@ -193,22 +193,17 @@ module _ (w : ℕ) (s : Settings) (v : Mover) (a : Move) (os : List Move) (o : A
   closes-asked nodes p f = simp (← move-left-is nodes, ← p, f)
 
   -- the node that is set is the one remembered last
-  pub cell-is : (m : Memory) → setCellCut w (v .head) (v .inner .last) m ≡ setCellOf w (v .head) a m
-  unfolding setCellCut setCellOf
+  pub cell-is : (m : Memory) → setCellOf w (v .head) (v .inner .last) m ≡ setCellOf w (v .head) (lastNode a) m
   cell-is m = rw (last-is v a os o)
 
-  pub set-asked : {r b : Bool} → r ≡ setNextsCut s (v .head) (v .inner .last) → r ≡ b → setNexts s (v .head) a ≡ b
-  unfolding setNexts setNextsCut
+  pub set-asked : {r b : Bool} → r ≡ setNexts s (v .head) (v .inner .last) → r ≡ b → setNexts s (v .head) (lastNode a) ≡ b
   set-asked p f = simp (← last-is v a os o, ← p, f)
 
-  pub puts-asked : (m : Memory) {r b : Bool} → r ≡ setPutsCut w s (v .head) (v .inner .last) m → r ≡ b → setPuts w s (v .head) a m ≡ b
-  unfolding setPuts setPutsCut
+  pub puts-asked : (m : Memory) {r b : Bool} → r ≡ setPuts w s (v .head) (v .inner .last) m → r ≡ b → setPuts w s (v .head) (lastNode a) m ≡ b
   puts-asked m p f = simp (← last-is v a os o, ← p, f)
 
-  pub looks-asked : (m : Memory) {r b : Bool} → r ≡ setLooksCut w s (v .head) (v .inner .last) m → r ≡ b → setLooks w s (v .head) a m ≡ b
-  unfolding setLooks setLooksCut setPuts setPutsCut
-  looks-asked m p f = simp (← cell-is m, ← last-is v a os o, ← p, f)
+  pub looks-asked : (m : Memory) {r b : Bool} → r ≡ setLooks w s (v .head) (v .inner .last) m → r ≡ b → setLooks w s (v .head) (lastNode a) m ≡ b
+  looks-asked m p f = simp (← last-is v a os o, ← p, f)
 
-  pub appends-asked : {r b : Bool} → r ≡ setAppendsCut s (v .head) (v .inner .last) → r ≡ b → setAppends s (v .head) a ≡ b
-  unfolding setAppends setAppendsCut
+  pub appends-asked : {r b : Bool} → r ≡ setAppends s (v .head) (v .inner .last) → r ≡ b → setAppends s (v .head) (lastNode a) ≡ b
   appends-asked p f = simp (← last-is v a os o, ← p, f)

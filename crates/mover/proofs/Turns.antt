@@ -30,7 +30,7 @@ use Rattle.steps.proofs.Ties.{take-level-cut, closed-cut}
 use Rattle.mover.specs.declared.Inner.{Inner}
 use Rattle.mover.specs.declared.Mover.{Mover}
 use Rattle.mover.specs.declared.Moved.{Moved}
-use Rattle.mover.specs.Cut.{movedOf, stays, refuses, rememberIn, forgetIn, MovedCut, movedCut, homeCut, setCellCut, lastHead, wordHead, wordInner, metHead, followHead, placeCut, begunCut, endHead, ends, isMoving}
+use Rattle.mover.specs.Cut.{movedOf, stays, refuses, rememberIn, forgetIn, MovedCut, movedCut, homeCut, lastHead, wordHead, wordInner, metHead, followHead, placeCut, begunCut, endHead, ends, isMoving}
 use Rattle.mover.specs.Moved.{Around, moveAfter, listAfter, moved, Gives}
 use Rattle.mover.proofs.Asked.{last-is, home-is, cell-is}
 use Rattle.mover.proofs.Bounds.{counts-refused, most-refused}
@@ -43,10 +43,10 @@ module _ (w : ℕ) (v : Mover) (a : Move) (os : List Move) (m : Memory) (r : Aro
   pub home-word : {word : ℕ} {x : Cell} → word ≡ cellAt w m x → x ≡ homeCut w v m → word ≡ cellAt w m (homeCell w (v .head) a os m)
   home-word p q = p ∙ ap (cellAt w m) (q ∙ home-is w v a os r m)
 
-  pub set-cell : (s : Settings) {x : Cell} → x ≡ setCellCut w (v .head) (v .inner .last) m → x ≡ setCellOf w (v .head) a m
+  pub set-cell : (s : Settings) {x : Cell} → x ≡ setCellOf w (v .head) (v .inner .last) m → x ≡ setCellOf w (v .head) (lastNode a) m
   set-cell s q = q ∙ cell-is w s v a os r m
 
-  pub set-word : (s : Settings) {word : ℕ} {x : Cell} → word ≡ cellAt w m x → x ≡ setCellCut w (v .head) (v .inner .last) m → word ≡ cellAt w m (setCellOf w (v .head) a m)
+  pub set-word : (s : Settings) {word : ℕ} {x : Cell} → word ≡ cellAt w m x → x ≡ setCellOf w (v .head) (v .inner .last) m → word ≡ cellAt w m (setCellOf w (v .head) (lastNode a) m)
   set-word s p q = p ∙ ap (cellAt w m) (q ∙ cell-is w s v a os r m)
 
 pub last-word :

@@ -71,22 +71,6 @@ roomIn s v word = pick (isNode word) (leb (v .count + 1) (s .limit)) true
 unfoldable pub wordAsked : Settings → Inner → ℕ → Bool
 wordAsked s v word = both (refTaken s word) (roomIn s v word)
 
--- of the node n that is set: its place and the questions
-unfoldable pub setCellCut : ℕ → Head → ℕ → Memory → Cell
-setCellCut w h n m = entryCell w (m .levels) (h .level) (pixelAt (m .nodes) n)
-
-unfoldable pub setNextsCut : Settings → Head → ℕ → Bool
-setNextsCut s h n = both (nodeTaken s n) (levelTaken s (h .level))
-
-unfoldable pub setPutsCut : ℕ → Settings → Head → ℕ → Memory → Bool
-setPutsCut w s h n m = both (picksIn w s (h .level) (m .levels)) (pixelFits s n (m .nodes))
-
-unfoldable pub setLooksCut : ℕ → Settings → Head → ℕ → Memory → Bool
-setLooksCut w s h n m = both (setPutsCut w s h n m) (readsRef w s (setCellCut w h n m) m)
-
-unfoldable pub setAppendsCut : Settings → Head → ℕ → Bool
-setAppendsCut s h n = both (standsAt s h) (nodeTaken s n)
-
 unfoldable pub moveEndsCut : ℕ → Settings → Mover → Memory → Bool
 moveEndsCut w s v m = both (picksHomeCut w s v m) (levelTaken s (v .inner .child))
 

@@ -6,10 +6,11 @@ ghost use Prim.Native.Nat.{_+_, _-_, _≤_};
 ghost use Rattle.words.specs.Choice.{both};
 ghost use Rattle.settings.specs.Cut.{Sized};
 ghost use Rattle.areas.specs.Memory.{memory, nodeTaken};
-ghost use Rattle.rules.specs.Moving.{chainHead, chainNext, setNext, setLook, setPut, setRead, setTail, setAppend, setLevel, setClose, setFollow, moveEnd};
+ghost use Rattle.rules.specs.Heads.{lastNode};
+ghost use Rattle.rules.specs.Moving.{chainHead, chainNext, setNext, setLook, setPut, setRead, setTail, setAppend, setLevel, setClose, setFollow, moveEnd, setCellOf};
 ghost use Rattle.rules.specs.Asked.{tails, takesLevel, chainHeads, chainNexts, setNexts, setPuts, setLooks, setAppends, setCloses, setFollows, moveEnds, readsBy};
 ghost use Rattle.rules.specs.Acts.{actBy};
-ghost use Rattle.mover.specs.Cut.{rememberIn, forgetIn, roomIn, setNextsCut, setPutsCut, setCellCut, setLooksCut, setAppendsCut, stays, refuses, movedCut, keyCut, homeCut, keyFitsCut, picksHomeCut, wordAsked, moveEndsCut, moveLeftCut, setClosesCut, lastHead, wordHead, wordInner, metHead, followHead, placeCut, begunCut, endHead, ends, isMoving};
+ghost use Rattle.mover.specs.Cut.{rememberIn, forgetIn, roomIn, stays, refuses, movedCut, keyCut, homeCut, keyFitsCut, picksHomeCut, wordAsked, moveEndsCut, moveLeftCut, setClosesCut, lastHead, wordHead, wordInner, metHead, followHead, placeCut, begunCut, endHead, ends, isMoving};
 ghost use Rattle.mover.specs.Words.{lastAt, innerAt, outerAt, moverAt, lastTo, innerOn, headTo, innerTo, moverTo};
 ghost use Rattle.mover.specs.Moved.{Gives};
 use areas::Cell;
@@ -158,28 +159,28 @@ fn chain_nexts(s: Settings, v: Inner, word: u32) -> bool
 
 // N is node n, the last one remembered.
 fn set_nexts(s: Settings, h: Head, n: u32) -> bool
-    ensures { λ r. ⌜ r ≡ setNextsCut s h n ⌝ }
+    ensures { λ r. ⌜ r ≡ setNexts s h n ⌝ }
 {
     and(node_taken(s, n), level_taken(s, h.level))
 }
 
 fn set_puts(s: Settings, h: Head, n: u32, nodes: &[u32], levels: &[u32]) -> bool
-    ensures { λ r. ⌜ r ≡ setPutsCut 3 s h n (memory (now (nodes .entry)) (now (levels .entry))) ⌝ }
+    ensures { λ r. ⌜ r ≡ setPuts 3 s h n (memory (now (nodes .entry)) (now (levels .entry))) ⌝ }
 {
     and(picks_in(s, h.level, levels), pixel_fits(s, n, nodes))
 }
 
 // The entry of N in the level that it is set into.
 fn set_cell_of(h: Head, n: u32, nodes: &[u32], levels: &[u32]) -> Cell
-    ensures { λ r. ⌜ r ≡ setCellCut 3 h n (memory (now (nodes .entry)) (now (levels .entry))) ⌝ }
+    ensures { λ r. ⌜ r ≡ setCellOf 3 h n (memory (now (nodes .entry)) (now (levels .entry))) ⌝ }
 {
     entry_cell(levels, h.level, pixel_at(nodes, n))
 }
 
 // x is that entry, which is found once a turn.
 fn set_looks(s: Settings, h: Head, n: u32, x: Cell, nodes: &[u32], levels: &[u32]) -> bool
-    requires { ⌜ x ≡ setCellCut 3 h n (memory (now nodes) (now levels)) ⌝ }
-    ensures { λ r. ⌜ r ≡ setLooksCut 3 s h n (memory (now (nodes .entry)) (now (levels .entry))) ⌝ }
+    requires { ⌜ x ≡ setCellOf 3 h n (memory (now nodes) (now levels)) ⌝ }
+    ensures { λ r. ⌜ r ≡ setLooks 3 s h n (memory (now (nodes .entry)) (now (levels .entry))) ⌝ }
 {
     and(
         set_puts(s, h, n, nodes, levels),
@@ -188,7 +189,7 @@ fn set_looks(s: Settings, h: Head, n: u32, x: Cell, nodes: &[u32], levels: &[u32
 }
 
 fn set_appends(s: Settings, h: Head, n: u32) -> bool
-    ensures { λ r. ⌜ r ≡ setAppendsCut s h n ⌝ }
+    ensures { λ r. ⌜ r ≡ setAppends s h n ⌝ }
 {
     and(stands_at(s, h), node_taken(s, n))
 }
@@ -569,7 +570,7 @@ impl Mover {
     pub fn set_next_word(self, s: Settings, nodes: &mut [u32], levels: &[u32]) -> Moved
         requires { ⌜ Sized s ⌝ }
         requires { ⌜ self .inner .count ≤ 8 ⌝ }
-        ensures { λ r. ⌜ Gives self s (memory (now (nodes .entry)) (now (levels .entry))) r (memory (now (nodes .exit)) (now (levels .entry))) (λ a os. setNexts s (self .head) a) (λ a os. setNext 3 s (self .head) a os (memory (now (nodes .entry)) (now (levels .entry)))) ⌝ }
+        ensures { λ r. ⌜ Gives self s (memory (now (nodes .entry)) (now (levels .entry))) r (memory (now (nodes .exit)) (now (levels .entry))) (λ a os. setNexts s (self .head) (lastNode a)) (λ a os. setNext 3 s (self .head) a os (memory (now (nodes .entry)) (now (levels .entry)))) ⌝ }
     {
         let h = self.head;
         let v = self.inner;
@@ -585,7 +586,7 @@ impl Mover {
     pub fn set_look(self, s: Settings, nodes: &[u32], levels: &[u32]) -> Moved
         requires { ⌜ Sized s ⌝ }
         requires { ⌜ self .inner .count ≤ 8 ⌝ }
-        ensures { λ r. ⌜ Gives self s (memory (now (nodes .entry)) (now (levels .entry))) r (memory (now (nodes .entry)) (now (levels .entry))) (λ a os. setLooks 3 s (self .head) a (memory (now (nodes .entry)) (now (levels .entry)))) (λ a os. setLook 3 s (self .head) a os (memory (now (nodes .entry)) (now (levels .entry)))) ⌝ }
+        ensures { λ r. ⌜ Gives self s (memory (now (nodes .entry)) (now (levels .entry))) r (memory (now (nodes .entry)) (now (levels .entry))) (λ a os. setLooks 3 s (self .head) (lastNode a) (memory (now (nodes .entry)) (now (levels .entry)))) (λ a os. setLook 3 s (self .head) a os (memory (now (nodes .entry)) (now (levels .entry)))) ⌝ }
     {
         let h = self.head;
         let v = self.inner;
@@ -602,7 +603,7 @@ impl Mover {
     pub fn set_put(self, s: Settings, nodes: &mut [u32], levels: &mut [u32]) -> Moved
         requires { ⌜ Sized s ⌝ }
         requires { ⌜ self .inner .count ≤ 8 ⌝ }
-        ensures { λ r. ⌜ Gives self s (memory (now (nodes .entry)) (now (levels .entry))) r (memory (now (nodes .exit)) (now (levels .exit))) (λ a os. setPuts 3 s (self .head) a (memory (now (nodes .entry)) (now (levels .entry)))) (λ a os. setPut 3 s (self .head) a os (memory (now (nodes .entry)) (now (levels .entry)))) ⌝ }
+        ensures { λ r. ⌜ Gives self s (memory (now (nodes .entry)) (now (levels .entry))) r (memory (now (nodes .exit)) (now (levels .exit))) (λ a os. setPuts 3 s (self .head) (lastNode a) (memory (now (nodes .entry)) (now (levels .entry)))) (λ a os. setPut 3 s (self .head) a os (memory (now (nodes .entry)) (now (levels .entry)))) ⌝ }
     {
         let h = self.head;
         let v = self.inner;
@@ -618,7 +619,7 @@ impl Mover {
     pub fn set_read(self, s: Settings, nodes: &[u32], levels: &[u32]) -> Moved
         requires { ⌜ Sized s ⌝ }
         requires { ⌜ self .inner .count ≤ 8 ⌝ }
-        ensures { λ r. ⌜ Gives self s (memory (now (nodes .entry)) (now (levels .entry))) r (memory (now (nodes .entry)) (now (levels .entry))) (λ a os. setLooks 3 s (self .head) a (memory (now (nodes .entry)) (now (levels .entry)))) (λ a os. setRead 3 s (self .head) a os (memory (now (nodes .entry)) (now (levels .entry)))) ⌝ }
+        ensures { λ r. ⌜ Gives self s (memory (now (nodes .entry)) (now (levels .entry))) r (memory (now (nodes .entry)) (now (levels .entry))) (λ a os. setLooks 3 s (self .head) (lastNode a) (memory (now (nodes .entry)) (now (levels .entry)))) (λ a os. setRead 3 s (self .head) a os (memory (now (nodes .entry)) (now (levels .entry)))) ⌝ }
     {
         let h = self.head;
         let v = self.inner;
@@ -651,7 +652,7 @@ impl Mover {
     pub fn set_append(self, s: Settings, nodes: &mut [u32], levels: &mut [u32]) -> Moved
         requires { ⌜ Sized s ⌝ }
         requires { ⌜ self .inner .count ≤ 8 ⌝ }
-        ensures { λ r. ⌜ Gives self s (memory (now (nodes .entry)) (now (levels .entry))) r (memory (now (nodes .exit)) (now (levels .exit))) (λ a os. setAppends s (self .head) a) (λ a os. setAppend 3 s (self .head) a os (memory (now (nodes .entry)) (now (levels .entry)))) ⌝ }
+        ensures { λ r. ⌜ Gives self s (memory (now (nodes .entry)) (now (levels .entry))) r (memory (now (nodes .exit)) (now (levels .exit))) (λ a os. setAppends s (self .head) (lastNode a)) (λ a os. setAppend 3 s (self .head) a os (memory (now (nodes .entry)) (now (levels .entry)))) ⌝ }
     {
         let h = self.head;
         let v = self.inner;

@@ -62,7 +62,7 @@ module _ {w : ℕ} {s₀ s : Settings} {m : Memory} {W : WorldOf w s₀} {ws : �
       }
 
   -- question 6 of its entry
-  pub puts-ok : setPuts w s h v m ≡ true
+  pub puts-ok : setPuts w s h (lastNode v) m ≡ true
   unfolding setPuts
   puts-ok = both-true (picks-ok a standing) (ap (λ n. pixelFits s n (m .nodes)) node-last ∙ pixel-fits (a .table) (a .inv .structure) N node-placed)
 

@@ -147,21 +147,21 @@ chainNexts s v nodes =
 unfoldable pub moveEnds : ℕ → Settings → Move → List Move → Memory → Bool
 moveEnds w s v os m = both (picksHome w s v os m) (levelTaken s (v .child))
 
--- SetNext: N and the level that it is set into
-unfoldable pub setNexts : Settings → Head → Move → Bool
-setNexts s h v = both (nodeTaken s (lastNode v)) (levelTaken s (h .level))
+-- SetNext: the node N (n), and the level that it is set into
+unfoldable pub setNexts : Settings → Head → ℕ → Bool
+setNexts s h n = both (nodeTaken s n) (levelTaken s (h .level))
 
 -- SetLook, SetPut, SetRead: the entry of N's pixel
-unfoldable pub setPuts : ℕ → Settings → Head → Move → Memory → Bool
-setPuts w s h v m = both (picksIn w s (h .level) (m .levels)) (pixelFits s (lastNode v) (m .nodes))
+unfoldable pub setPuts : ℕ → Settings → Head → ℕ → Memory → Bool
+setPuts w s h n m = both (picksIn w s (h .level) (m .levels)) (pixelFits s n (m .nodes))
 
 -- SetLook, SetRead: the word in that entry too
-unfoldable pub setLooks : ℕ → Settings → Head → Move → Memory → Bool
-setLooks w s h v m = both (setPuts w s h v m) (readsRef w s (setCellOf w h v m) m)
+unfoldable pub setLooks : ℕ → Settings → Head → ℕ → Memory → Bool
+setLooks w s h n m = both (setPuts w s h n m) (readsRef w s (setCellOf w h n m) m)
 
 -- SetAppend: the level, R, and N
-unfoldable pub setAppends : Settings → Head → Move → Bool
-setAppends s h v = both (standsAt s h) (nodeTaken s (lastNode v))
+unfoldable pub setAppends : Settings → Head → ℕ → Bool
+setAppends s h n = both (standsAt s h) (nodeTaken s n)
 
 -- SetClose: the level, R, the level in hand, and room for a Move inside
 unfoldable pub setCloses : ℕ → Settings → Head → List Move → List ℕ → Bool
@@ -186,12 +186,12 @@ readsBy Close w s h ms m = closes s h
 readsBy Follow w s h ms m = follows w s h m
 readsBy ChainHead w s h ms m = chainHeads w s h (inner ms) (outer ms) m
 readsBy ChainNext w s h ms m = chainNexts s (inner ms) (m .nodes)
-readsBy SetNext w s h ms m = setNexts s h (inner ms)
-readsBy SetLook w s h ms m = setLooks w s h (inner ms) m
-readsBy SetPut w s h ms m = setPuts w s h (inner ms) m
-readsBy SetRead w s h ms m = setLooks w s h (inner ms) m
+readsBy SetNext w s h ms m = setNexts s h (lastNode (inner ms))
+readsBy SetLook w s h ms m = setLooks w s h (lastNode (inner ms)) m
+readsBy SetPut w s h ms m = setPuts w s h (lastNode (inner ms)) m
+readsBy SetRead w s h ms m = setLooks w s h (lastNode (inner ms)) m
 readsBy SetTail w s h ms m = tails s h (m .nodes)
-readsBy SetAppend w s h ms m = setAppends s h (inner ms)
+readsBy SetAppend w s h ms m = setAppends s h (lastNode (inner ms))
 readsBy SetLevel w s h ms m = takesLevel w s h (m .levels)
 readsBy SetClose w s h ms m = setCloses w s h ms (m .nodes)
 readsBy SetFollow w s h ms m = setFollows w s h m

@@ -26,8 +26,8 @@ unfoldable pub homeCell : ℕ → Head → Move → List Move → Memory → Cel
 homeCell w h v os m = entryCell w (m .levels) (v .home) (keyOf h os (m .nodes))
 
 -- "read N's entry in G": the entry of N in the level that it is set into
-unfoldable pub setCellOf : ℕ → Head → Move → Memory → Cell
-setCellOf w h v m = entryCell w (m .levels) (h .level) (pixelAt (m .nodes) (lastNode v))
+unfoldable pub setCellOf : ℕ → Head → ℕ → Memory → Cell
+setCellOf w h n m = entryCell w (m .levels) (h .level) (pixelAt (m .nodes) n)
 
 -- "From the last to the first, each node N is set into G. Then the entry in H is written to G."
 unfoldable pub setLast : Settings → Head → Move → List Move → Memory → Step
@@ -71,15 +71,15 @@ setNext w s h v os m = going s (to SetLook h) (v ∷ os) (setCell w m (Next (las
 
 -- SetLook: "read N's entry in G; if it is G, exchange it to N"; "failed or not G: read the entry again"
 unfoldable pub setLook : ℕ → Settings → Head → Move → List Move → Memory → Step
-setLook w s h v os m = going s (peeked h (cellAt w m (setCellOf w h v m)) SetPut SetRead) (v ∷ os) m
+setLook w s h v os m = going s (peeked h (cellAt w m (setCellOf w h (lastNode v) m)) SetPut SetRead) (v ∷ os) m
 
 -- SetPut: "exchange it to N, done"
 unfoldable pub setPut : ℕ → Settings → Head → Move → List Move → Memory → Step
-setPut w s h v os m = setNode w SetRead s h v os (setCellOf w h v m) m
+setPut w s h v os m = setNode w SetRead s h v os (setCellOf w h (lastNode v) m) m
 
 -- SetRead: "failed or not G: read the entry again"
 unfoldable pub setRead : ℕ → Settings → Head → Move → List Move → Memory → Step
-setRead w s h v os m = setReadWord s h v os (cellAt w m (setCellOf w h v m)) m
+setRead w s h v os m = setReadWord s h v os (cellAt w m (setCellOf w h (lastNode v) m)) m
 
 -- SetTail: "read R's next; if G and below the limit, exchange it to N, done; if G and at the limit, Level and Close as above"
 unfoldable pub setTail : ℕ → Settings → Head → Move → List Move → Memory → Step

@@ -1,6 +1,6 @@
 -- `mover::set_appends` meets its contract.
 -- Relies on steps.
-use Rattle.mover.specs.Cut.{setAppendsCut}
+use Rattle.rules.specs.Asked.{setAppends}
 use Rattle.steps.proofs.Asked.{ask-both}
 use borrow.Author.Needs.{needs}
 use Rattle.mover.proofs.set_appends.Statement.{statement}
@@ -16,7 +16,7 @@ and-requires : tie.Need-and-requires
 and-requires c κs = search needs
 
 returns : tie.Need-returns
-unfolding setAppendsCut
+unfolding setAppends
 returns c = search (needs, ask-both)
 
 pub set-appends-spec : {M : Type 1} → statement M

@@ -1,6 +1,6 @@
 -- `mover::set_nexts` meets its contract.
 -- Relies on steps.
-use Rattle.mover.specs.Cut.{setNextsCut}
+use Rattle.rules.specs.Asked.{setNexts}
 use Rattle.steps.proofs.Asked.{ask-both}
 use borrow.Author.Needs.{needs}
 use Rattle.mover.proofs.set_nexts.Statement.{statement}
@@ -16,7 +16,7 @@ and-requires : tie.Need-and-requires
 and-requires c κs = search needs
 
 returns : tie.Need-returns
-unfolding setNextsCut
+unfolding setNexts
 returns c = search (needs, ask-both)
 
 pub set-nexts-spec : {M : Type 1} → statement M

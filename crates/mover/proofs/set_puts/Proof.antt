@@ -1,6 +1,6 @@
 -- `mover::set_puts` meets its contract.
 -- Relies on steps.
-use Rattle.mover.specs.Cut.{setPutsCut}
+use Rattle.rules.specs.Asked.{setPuts}
 use Rattle.steps.proofs.Asked.{ask-both}
 use borrow.Author.Needs.{needs}
 use Rattle.mover.proofs.set_puts.Statement.{statement}
@@ -16,7 +16,7 @@ and-requires : tie.Need-and-requires
 and-requires c κs = search needs
 
 returns : tie.Need-returns
-unfolding setPutsCut
+unfolding setPuts
 returns c = search (needs, ask-both)
 
 pub set-puts-spec : {M : Type 1} → statement M
