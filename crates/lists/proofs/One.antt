@@ -1,5 +1,5 @@
 -- One turn is a list of one entry: the ways through its functions, and that its reply is the turn's.
--- Relies on Tells for what the record tells, on rules for the numbers of a turn.
+-- Relies on Tells for the number that the record tells, on rules for its answer and for the numbers of a turn.
 use Prim.Native.Nat.{ℕ, _+_, _*_, _≤_, _<_}
 use mathlib.Core.Path.{_≡_, refl, ap, sym, subst, _∙_}
 use mathlib.Core.Logic.{_≢_}
@@ -34,13 +34,14 @@ use Rattle.rules.specs.Steps.{Step}
 use Rattle.rules.specs.Acts.{act}
 use Rattle.rules.proofs.OneTurn.{turn-number, done-number, nine-is-full, turn-refused}
 use Rattle.rules.proofs.Questions.{first-later}
+use Rattle.rules.proofs.Tells.{Tells, act-tells}
 use Rattle.settings.proofs.Laws.{sized}
 use Rattle.table.specs.Cut.{firstFour}
 use Rattle.table.proofs.Questions.{both-zero}
 use Rattle.turns.proofs.Ways.{four-yes, four-inside}
 use Rattle.lists.specs.declared.Tally.{Tally}
 use Rattle.lists.specs.Cut.{Run, run, countedBy, ranOf, ranBy, ranEntry, ranList, numberBy, oneReply}
-use Rattle.lists.proofs.Tells.{Tells, act-tells}
+use Rattle.lists.proofs.Tells.{act-number}
 
 -- the ways through its functions
 module _ (h : Head) where
@@ -130,7 +131,7 @@ module _ (w : ℕ) (s : Settings) (i : ℕ) (a : Areas) where
       let t : Step = act w s (recordOf w a i) (memoryOf a) in
       let k : Tells t = act-tells w s (recordOf w a i) (memoryOf a) q in
       let h : headAt w (store w (t .record′) i (a .workers)) i ≡ t .record′ .head = head-stored w (t .record′) i (a .workers) room in
-      rw (h, k .number-is, k .answer-is) refl
+      rw (h, act-number w s (recordOf w a i) (memoryOf a) q, k .answer-is) refl
 
   full-told : workerPlace w i + 10 ≤ length (a .workers) → Told (full w s i a)
   unfolding full fullRecord numberBy lastOf ended kindNo answerOf pick

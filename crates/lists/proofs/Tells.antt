@@ -1,154 +1,47 @@
--- What a turn that was done has answered stands in its worker's record: an idle one tells its last answer, any other that its call is open.
--- Relies on the definitions of the turns, on record for what is stored.
-use Prim.Native.Nat.{ℕ, zero, suc, _≤_}
-use mathlib.Core.Path.{_≡_, refl, sym, subst}
-use mathlib.Core.Bool.{true, false, not}
-use mathlib.Core.List.{List, [], _∷_}
+-- The number of a turn that was done stands in its worker's record: it is 0 where the record does not tell "full".
+-- Relies on rules for the answer that the record tells.
+use Prim.Native.Nat.{ℕ}
+use mathlib.Core.Path.{_≡_, refl, ap, sym, _∙_}
+use mathlib.Core.Logic.{_≢_}
+use mathlib.Core.Bool.{true}
 use native.Mathlib.Omega.{arith}
 use lib.Dec.{eqb}
-use borrow.Author.Tests.{ne-eqb}
-use Rattle.words.specs.Choice.{pick}
-use Rattle.words.proofs.Choice.{pick-both, true-false}
+use borrow.Author.Tests.{eqb-true}
+use Rattle.words.proofs.Choice.{pick-both, pick-true}
 use Rattle.settings.specs.declared.Settings.{Settings}
-use Rattle.areas.specs.Memory.{Memory, isNode}
-use Rattle.areas.specs.declared.Cell.{Cell}
-use Rattle.record.specs.declared.Kind.{Kind}
-use Rattle.record.specs.declared.Kind.the-variants.{Idle, Look, Take, Put, Read, Tail, TakeTail, Append, Level, Close, Follow, ChainHead, ChainNext, SetNext, SetLook, SetPut, SetRead, SetTail, SetAppend, SetLevel, SetClose, SetFollow, MoveEnd, Unknown}
-use Rattle.record.specs.declared.Answer.the-variants.{New, Found}
+use Rattle.areas.specs.Memory.{Memory}
+use Rattle.record.specs.declared.Answer.{Answer}
+use Rattle.record.specs.declared.Answer.the-variants.{Full, Open}
 use Rattle.record.specs.declared.Head.{Head}
-use Rattle.record.specs.declared.Move.{Move}
 use Rattle.record.specs.Kinds.{kindNo, answerOf}
 use Rattle.record.specs.Layout.{Record}
+use Rattle.rules.specs.Acts.{act}
+use Rattle.rules.specs.Asked.{question8}
 use Rattle.rules.specs.Operations.{lastOf}
-use Rattle.rules.specs.Heads.{to, toLevel, toNode, holdingNode, holdingLevel, ended}
-use Rattle.rules.specs.Steps.{Step, step, going, expected, peeked, byCount, withNode, takeNode, withLevel, takeLevel, closed}
-use Rattle.rules.specs.Searching as searching
-use Rattle.rules.specs.Moving as moving
-use Rattle.rules.specs.Acts.{actBy, act}
-use Rattle.rules.specs.Asked.{question7, question8}
+use Rattle.rules.proofs.Tells.{Said, says-open, says-new, says-found, Tells, act-tells}
 use Rattle.lists.specs.Cut.{numberBy}
 
--- a turn's step: its record tells its answer, and number 0
-pub record Tells (t : Step) : Type 0 where
-  pub number-is : numberBy (t .record′ .head) ≡ 0
-  pub answer-is : lastOf (t .record′ .head) ≡ t .answer
+not-full : {a : Answer} → Said a → a ≢ Full
+not-full says-open e = let z : _≡_ {A = ℕ} 0 1 = cc in omega arith
+not-full (says-new n) e = let z : _≡_ {A = ℕ} 0 1 = cc in omega arith
+not-full (says-found n) e = let z : _≡_ {A = ℕ} 0 1 = cc in omega arith
 
-open-tells : (s : Settings) (h : Head) (ms : List Move) (m : Memory) → 1 ≤ kindNo (h .kind) → Tells (going s h ms m)
-unfolding numberBy lastOf pick
-open-tells s h ms m k =
-    let e : eqb (kindNo (h .kind)) 0 ≡ false = ne-eqb (kindNo (h .kind)) 0 (λ z. omega arith) in
-    record { number-is = simp e; answer-is = simp e }
+-- an idle head with the answer's number 3 tells "full"
+tells-full : (h : Head) → eqb (kindNo (h .kind)) 0 ≡ true → h .answer ≡ 3 → lastOf h ≡ Full
+unfolding lastOf answerOf
+tells-full h e f =
+    let a : answerOf (h .answer) (h .«answer_node») ≡ Full = ap (λ (c : ℕ). answerOf c (h .«answer_node»)) f in
+    pick-true (eqb (kindNo (h .kind)) 0) (answerOf (h .answer) (h .«answer_node»)) Open e ∙ a
 
-new-tells : (s : Settings) (i n : ℕ) (h : Head) (m : Memory) → Tells (step (New i) s (ended 1 i n h) [] m)
-unfolding numberBy lastOf ended kindNo answerOf pick
-new-tells s i n h m = record { number-is = refl; answer-is = refl }
-
-found-tells : (s : Settings) (i n : ℕ) (h : Head) (m : Memory) → Tells (step (Found i) s (ended 2 i n h) [] m)
-unfolding numberBy lastOf ended kindNo answerOf pick
-found-tells s i n h m = record { number-is = refl; answer-is = refl }
-
-module _ (w : ℕ) (s : Settings) (h : Head) where
-  to-tells : (k : Kind) (ms : List Move) (m : Memory) → 1 ≤ kindNo k → Tells (going s (to k h) ms m)
-  unfolding to
-  to-tells k ms m o = open-tells s (to k h) ms m o
-
-  level-tells : (k : Kind) (g : ℕ) (ms : List Move) (m : Memory) → 1 ≤ kindNo k → Tells (going s (toLevel k g h) ms m)
-  unfolding toLevel
-  level-tells k g ms m o = open-tells s (toLevel k g h) ms m o
-
-  node-tells : (k : Kind) (i c : ℕ) (ms : List Move) (m : Memory) → 1 ≤ kindNo k → Tells (going s (toNode k i c h) ms m)
-  unfolding toNode
-  node-tells k i c ms m o = open-tells s (toNode k i c h) ms m o
-
-  peek-tells : (word : ℕ) (a b : Kind) (ms : List Move) (m : Memory) → 1 ≤ kindNo a → 1 ≤ kindNo b → Tells (going s (peeked h word a b) ms m)
-  unfolding peeked
-  peek-tells word a b ms m o p = to-tells _ ms m (pick-both (λ (k : Kind). 1 ≤ kindNo k) (expected h word) (λ e. o) (λ e. p))
-
-  count-open : (c : ℕ) (a b d : Kind) → 1 ≤ kindNo a → 1 ≤ kindNo b → 1 ≤ kindNo d → 1 ≤ kindNo (byCount s c a b d)
-  unfolding byCount
-  count-open c a b d o p q =
-      pick-both (λ (k : Kind). 1 ≤ kindNo k) _ (λ e. o) (λ e. pick-both (λ (k : Kind). 1 ≤ kindNo k) _ (λ f. p) (λ f. q))
-
-  module _ (m : Memory) where
-    placed-tells : (k : Kind) (x : Cell) → 1 ≤ kindNo k → Tells (searching.placed w k s h x m)
-    unfolding searching.placed
-    placed-tells k x o = pick-both Tells (expected h _) (λ e. new-tells s _ 0 h _) (λ e. to-tells k [] m o)
-
-    met-tells : (c g word : ℕ) → Tells (searching.met s h c g word m)
-    unfolding searching.met searching.metNode kindNo
-    met-tells c g word =
-        pick-both Tells (isNode word)
-        (λ e. pick-both Tells (eqb _ (h .pixel)) (λ p. found-tells s _ _ h m) (λ p. node-tells Tail _ c [] m (omega arith)))
-        (λ e. level-tells Look g [] m (omega arith))
-
-    take-tells : (k : Kind) → 1 ≤ kindNo k → Tells (takeNode k s h m)
-    unfolding takeNode withNode holdingNode
-    take-tells k o = pick-both Tells (eqb (h .«held_node») 0) (λ e. open-tells _ _ [] _ o) (λ e. open-tells _ _ [] _ o)
-
-    taken-tells : (k : Kind) (ms : List Move) → 1 ≤ kindNo k → Tells (takeLevel w k s h ms m)
-    unfolding takeLevel withLevel holdingLevel
-    taken-tells k ms o = pick-both Tells (eqb (h .«held_level») 0) (λ e. open-tells _ _ ms _ o) (λ e. open-tells _ _ ms _ o)
-
-    closed-tells : (k : Kind) (ms : List Move) → 1 ≤ kindNo k → Tells (closed w k s h ms m)
-    unfolding closed holdingLevel kindNo
-    closed-tells k ms o = pick-both Tells (expected h _) (λ e. open-tells s _ _ _ (omega arith)) (λ e. to-tells k ms m o)
-
-    last-tells : (v : Move) (os : List Move) (m : Memory) → Tells (moving.setLast s h v os m)
-    unfolding moving.setLast to toLevel kindNo
-    last-tells v os m =
-        open-tells s _ (v ∷ os) m (pick-both (λ (x : Head). 1 ≤ kindNo (x .kind)) (eqb (v .count) 0) (λ e. omega arith) (λ e. omega arith))
-
-    chain-tells : (v : Move) (os : List Move) (word : ℕ) → Tells (moving.chainWord s h v os word m)
-    unfolding moving.chainWord kindNo
-    chain-tells v os word = pick-both Tells (isNode word) (λ e. to-tells ChainNext _ m (omega arith)) (λ e. last-tells v os m)
-
-    again-tells : (v : Move) (os : List Move) (c g word : ℕ) → Tells (moving.setMet s h v os c g word m)
-    unfolding moving.setMet toNode toLevel kindNo
-    again-tells v os c g word =
-        open-tells s _ (v ∷ os) m (pick-both (λ (x : Head). 1 ≤ kindNo (x .kind)) (isNode word) (λ e. omega arith) (λ e. omega arith))
-
-    set-tells : (k : Kind) (v : Move) (os : List Move) (x : Cell) → 1 ≤ kindNo k → Tells (moving.setNode w k s h v os x m)
-    unfolding moving.setNode
-    set-tells k v os x o = pick-both Tells (expected h _) (λ e. last-tells _ os _) (λ e. to-tells k _ m o)
-
-    after-tells : (g : ℕ) (os : List Move) (m : Memory) → Tells (going s (moving.afterMove h g os) os m)
-    unfolding moving.afterMove kindNo
-    after-tells g [] m = level-tells Look g [] m (omega arith)
-    after-tells g (o ∷ os) m = level-tells SetNext g (o ∷ os) m (omega arith)
-
-    -- by kind
-    kind-tells : (k : Kind) (ms : List Move) → h .kind ≡ k → 1 ≤ kindNo k → Tells (actBy k w s h ms m)
-    unfolding actBy kindNo searching.look searching.take searching.put searching.read searching.readWord searching.tail searching.takeTail searching.append searching.level searching.close searching.follow searching.followWord moving.chainHead moving.chainNext moving.setNext moving.setLook moving.setPut moving.setRead moving.setReadWord moving.setTail moving.setAppend moving.setLevel moving.setClose moving.setFollow moving.setFollowWord moving.moveEnd
-    kind-tells Idle ms e o = absurd (omega arith)
-    kind-tells Look ms e o = peek-tells _ Take Read [] m (omega arith) (omega arith)
-    kind-tells Take ms e o = take-tells Put (omega arith)
-    kind-tells Put ms e o = placed-tells Read _ (omega arith)
-    kind-tells Read ms e o = met-tells 1 _ _
-    kind-tells Tail ms e o = peek-tells _ _ Follow [] m (count-open _ TakeTail Level Follow (omega arith) (omega arith) (omega arith)) (omega arith)
-    kind-tells TakeTail ms e o = take-tells Append (omega arith)
-    kind-tells Append ms e o = placed-tells Follow _ (omega arith)
-    kind-tells Level ms e o = taken-tells Close [] (omega arith)
-    kind-tells Close ms e o = closed-tells Follow [] (omega arith)
-    kind-tells Follow ms e o = met-tells _ _ _
-    kind-tells ChainHead ms e o = chain-tells _ _ _
-    kind-tells ChainNext ms e o = chain-tells _ _ _
-    kind-tells SetNext ms e o = to-tells SetLook _ _ (omega arith)
-    kind-tells SetLook ms e o = peek-tells _ SetPut SetRead _ m (omega arith) (omega arith)
-    kind-tells SetPut ms e o = set-tells SetRead _ _ _ (omega arith)
-    kind-tells SetRead ms e o = again-tells _ _ 1 _ _
-    kind-tells SetTail ms e o = peek-tells _ _ SetFollow _ m (count-open _ SetAppend SetLevel SetFollow (omega arith) (omega arith) (omega arith)) (omega arith)
-    kind-tells SetAppend ms e o = set-tells SetFollow _ _ _ (omega arith)
-    kind-tells SetLevel ms e o = taken-tells SetClose _ (omega arith)
-    kind-tells SetClose ms e o = closed-tells SetFollow _ (omega arith)
-    kind-tells SetFollow ms e o = again-tells _ _ _ _ _
-    kind-tells MoveEnd ms e o = after-tells _ _ _
-    kind-tells Unknown ms e o = open-tells s h ms m (subst (λ (x : Kind). 1 ≤ kindNo x) (sym e) (omega arith))
+number-zero : (h : Head) → lastOf h ≢ Full → numberBy h ≡ 0
+unfolding numberBy
+number-zero h d =
+    pick-both (λ (n : ℕ). n ≡ 0) (eqb (kindNo (h .kind)) 0)
+    (λ e. pick-both (λ (n : ℕ). n ≡ 0) (eqb (h .answer) 3) (λ f. absurd (d (tells-full h e (eqb-true _ _ f)))) (λ f. refl))
+    (λ e. refl)
 
 -- a worker with a call open
-pub act-tells : (w : ℕ) (s : Settings) (r : Record) (m : Memory) → question8 r ≡ true → Tells (act w s r m)
-unfolding question8 question7 act
-act-tells w s r m q = kind-tells w s (r .head) m (r .head .kind) (r .moves) refl (some (kindNo (r .head .kind)) q)
-  where
-    some : (n : ℕ) → not (eqb n 0) ≡ true → 1 ≤ n
-    some zero e = absurd (true-false (sym e))
-    some (suc n) e = omega arith
+pub act-number : (w : ℕ) (s : Settings) (r : Record) (m : Memory) → question8 r ≡ true → numberBy (act w s r m .record′ .head) ≡ 0
+act-number w s r m q =
+    let k : Tells (act w s r m) = act-tells w s r m q in
+    number-zero (act w s r m .record′ .head) (λ e. not-full (k .said) (sym (k .answer-is) ∙ e))

@@ -58,6 +58,8 @@ pub mod Counting
 pub mod Reach
 pub mod Theorem
 pub mod Operated
+pub mod Tells
+pub mod LastAnswers
 pub mod Consequences
 pub mod ExcessWords
 pub mod ExcessRecords

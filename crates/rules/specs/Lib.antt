@@ -14,5 +14,6 @@ pub mod Calls
 pub mod Refusals
 pub mod Excess
 pub mod Demands
+pub mod LastAnswers
 pub mod Consequences
 pub mod Sequences
