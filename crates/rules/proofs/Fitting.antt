@@ -27,7 +27,7 @@ use Rattle.rules.proofs.FitsCall.{local-counted, set-counted, CountFits
 use Rattle.rules.proofs.FitsMoves.{frames-sized, moves-few, moving-fits}
 
 -- no Move
-no-moves : (w : ℕ) (r : Record) → r .moves ≡ [] → WellFormed w r
+pub no-moves : (w : ℕ) (r : Record) → r .moves ≡ [] → WellFormed w r
 no-moves w r n = record { sized = rw n tt; few = rw n (omega arith) }
 
 module _ {w : ℕ} {s₀ s : Settings} {m : Memory} {W : WorldOf w s₀} {ws : ℕ → Worker} {i : ℕ} {r : Record} (a : At w s₀ s m W ws i r) where

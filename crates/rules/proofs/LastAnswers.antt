@@ -6,13 +6,10 @@ use mathlib.Core.Logic.{_≢_}
 use mathlib.Core.Bool.{true, false}
 use mathlib.Core.List.{List, [], _∷_}
 use native.Mathlib.Decide.{ℕ-discrete}
-use native.Mathlib.Nat.{zero-add}
 use native.Mathlib.Omega.{arith}
 use lib.ListN.{length}
 use borrow.Author.Tests.{eq-eqb, ne-eqb, lt-ltb, le-leb, not-true}
-use Rattle.words.specs.Blocks.{fill}
 use Rattle.words.specs.Choice.{pick, every}
-use Rattle.words.proofs.Blocks.{fill-in}
 use Rattle.words.proofs.Choice.{pick-both, pick-true, pick-false, both-left, both-right, both-true}
 use Rattle.settings.specs.Sizes.{question1, question2, question3, levelCount, within, workerWords}
 use Rattle.settings.specs.declared.Settings.{Settings}
@@ -25,7 +22,7 @@ use Rattle.record.specs.declared.Reply.{Reply}
 use Rattle.record.specs.Kinds.{kindNo, answerOf}
 use Rattle.record.specs.Layout.{Record, record′, headFrom, headAt, workerPlace, load, store}
 use Rattle.record.proofs.Apart.{cells-same, place-next, room as word-room}
-use Rattle.record.proofs.Records.{WellFormed, idle, zero-words, head-stored, store-other}
+use Rattle.record.proofs.Records.{WellFormed, idle, head-stored, store-other}
 use Rattle.rules.specs.Opening.{openedAreas}
 use Rattle.rules.specs.Heads.{started, ended}
 use Rattle.rules.specs.Steps.{Step}
@@ -43,10 +40,10 @@ use Rattle.rules.proofs.Carried.{opening-done, start-done}
 use Rattle.rules.proofs.OneTurn.{done-number, nine-is-full, turn-refused, refuses-turn}
 use Rattle.rules.proofs.Refused.{refuses-opening, refuses-start}
 use Rattle.rules.proofs.Invariant.{at}
-use Rattle.rules.proofs.Fitting.{well-formed, fits-ok}
+use Rattle.rules.proofs.Fitting.{no-moves, well-formed, fits-ok}
 use Rattle.rules.proofs.Asking.{turn-ok}
 use Rattle.rules.proofs.Along.{Along, below}
-use Rattle.rules.proofs.Opened.{along-opened}
+use Rattle.rules.proofs.Opened.{zero-record, along-opened}
 use Rattle.rules.proofs.Sequence.{event-along, run-along}
 use Rattle.rules.proofs.Tells.{Said, says-open, says-new, says-found, Tells, act-tells}
 
@@ -113,12 +110,12 @@ end-told b (says-new n) e = refl
 end-told b (says-found n) e = refl
 
 -- a record without Moves
-no-moves : (w : ℕ) (h : Head) → WellFormed w (record′ h [])
-no-moves w h = record { sized = tt; few = omega arith }
+alone : (w : ℕ) (h : Head) → WellFormed w (record′ h [])
+alone w h = no-moves w (record′ h []) refl
 
 full-formed : (w : ℕ) (h : Head) → WellFormed w (fullRecord h)
 unfolding fullRecord
-full-formed w h = no-moves w (ended 3 0 (h .«held_node») h)
+full-formed w h = alone w (ended 3 0 (h .«held_node») h)
 
 -- the yes of a turn's questions that are used
 record TurnYes (w : ℕ) (x : State) (j : ℕ) : Type 0 where
@@ -162,7 +159,7 @@ module _ {w : ℕ} {s₀ : Settings} {x : State} {k : ℕ} {os : List Opened} {c
     start-done-told : Dec (j ≡ i) → ToldAfter (starts j row column) (result (reply 0 Open 0 (x .settings)) (startedAreas w j row column (x .areas)))
     unfolding startedAreas
     start-done-told (yes e) = ap lastOf (own-head w _ i j (x .areas .workers) e place-room) ∙ (started-tells _ _ ∙ sym (told-start i j _ _ row column e refl))
-    start-done-told (no d) = ap lastOf (other-head w _ i j (x .areas .workers) (no-moves w _) d) ∙ sym (told-other-start i j _ _ row column d)
+    start-done-told (no d) = ap lastOf (other-head w _ i j (x .areas .workers) (alone w _) d) ∙ sym (told-other-start i j _ _ row column d)
 
     start-told : ToldAfter (starts j row column) begun
     start-told = by (ℕ-discrete (begun .reply .number) 0)
@@ -228,16 +225,8 @@ sequence-told {w} (e ∷ es) x a i h =
 
 -- after an opening a record is the one of zeros
 opened-record : (w : ℕ) (s : Settings) (a : Areas) (i : ℕ) → i < s .workers → question2Of w s a ≡ true → recordOf w (openedAreas w s a) i ≡ idle
-unfolding openedAreas workerPlace
-opened-record w s a i h q =
-    let R = room w s (length (a .nodes)) (length (a .levels)) (length (a .workers)) q in
-    zero-words w (fill (a .workers) 0 (workerWords w * s .workers) 0) i
-    (λ k g.
-    let r = R .workers in
-    let p = place-next w h in
-    let b = word-room w in
-    let e : workerWords w * i + k < workerWords w * s .workers = omega arith in
-    rw zero-add at (fill-in (workerWords w * s .workers) (a .workers) 0 0 (workerWords w * i + k) e (omega arith)))
+unfolding openedAreas
+opened-record w s a i h q = zero-record w (a .workers) (s .workers) i h (room w s (length (a .nodes)) (length (a .levels)) (length (a .workers)) q .workers)
 
 -- the questions of a last answer are answered yes
 module _ {w : ℕ} {s₀ : Settings} {x : State} {k : ℕ} {os : List Opened} {cs : List Call} (a : Along w s₀ x k os cs) (i : ℕ) (here : i < s₀ .workers) where

@@ -75,7 +75,7 @@ levels {δ} W workers =
     record { covered = λ d. []; count = λ d. 0; counted = counted W; total = omega arith }
 
 -- the workers' words are zeros
-zero-record : (w : ℕ) (l : List ℕ) (workers i : ℕ) → i < workers → workerWords w * workers ≤ length l → load w (fill l 0 (workerWords w * workers) 0) i ≡ idle
+pub zero-record : (w : ℕ) (l : List ℕ) (workers i : ℕ) → i < workers → workerWords w * workers ≤ length l → load w (fill l 0 (workerWords w * workers) 0) i ≡ idle
 unfolding workerPlace
 zero-record w l workers i h r =
     zero-words w (fill l 0 (workerWords w * workers) 0) i
