@@ -75,11 +75,11 @@ module _ (i j : ℕ) (r : Reply) (b : Answer) where
 
 -- a record that is stored: its own head is there again, the head of another worker stays
 module _ (w : ℕ) (r : Record) (i j : ℕ) (l : List ℕ) where
-  own-head : j ≡ i → workerPlace w i + 10 ≤ length l → load w (store w r j l) i .head ≡ r .head
+  pub own-head : j ≡ i → workerPlace w i + 10 ≤ length l → load w (store w r j l) i .head ≡ r .head
   unfolding load
   own-head e h = rw e (head-stored w r i l h)
 
-  other-head : WellFormed w r → j ≢ i → load w (store w r j l) i .head ≡ load w l i .head
+  pub other-head : WellFormed w r → j ≢ i → load w (store w r j l) i .head ≡ load w l i .head
   unfolding load headAt workerPlace
   other-head f d =
       let b = word-room w in
@@ -94,11 +94,11 @@ full-tells : (h : Head) → lastOf (fullRecord h .head) ≡ Full
 unfolding lastOf fullRecord ended kindNo answerOf pick
 full-tells h = refl
 
-idle-tells : lastOf (idle .head) ≡ Nothing
+pub idle-tells : lastOf (idle .head) ≡ Nothing
 unfolding lastOf kindNo answerOf pick
 idle-tells = refl
 
-busy-tells : (r : Record) → question7 r ≡ false → lastOf (r .head) ≡ Open
+pub busy-tells : (r : Record) → question7 r ≡ false → lastOf (r .head) ≡ Open
 unfolding lastOf question7
 busy-tells r q = pick-false _ _ _ q
 
@@ -110,20 +110,20 @@ end-told b (says-new n) e = refl
 end-told b (says-found n) e = refl
 
 -- a record without Moves
-alone : (w : ℕ) (h : Head) → WellFormed w (record′ h [])
+pub alone : (w : ℕ) (h : Head) → WellFormed w (record′ h [])
 alone w h = no-moves w (record′ h []) refl
 
-full-formed : (w : ℕ) (h : Head) → WellFormed w (fullRecord h)
+pub full-formed : (w : ℕ) (h : Head) → WellFormed w (fullRecord h)
 unfolding fullRecord
 full-formed w h = alone w (ended 3 0 (h .«held_node») h)
 
 -- the yes of a turn's questions that are used
-record TurnYes (w : ℕ) (x : State) (j : ℕ) : Type 0 where
+pub record TurnYes (w : ℕ) (x : State) (j : ℕ) : Type 0 where
   pub below : question4 (x .settings) j ≡ true
   pub open8 : question8 (recordOf w (x .areas) j) ≡ true
   pub left9 : question9 (x .settings) (recordOf w (x .areas) j) ≡ true
 
-turn-yes : (w : ℕ) (x : State) (j : ℕ) → AllYes (turnQuestions w (x .settings) j (x .areas)) → TurnYes w x j
+pub turn-yes : (w : ℕ) (x : State) (j : ℕ) → AllYes (turnQuestions w (x .settings) j (x .areas)) → TurnYes w x j
 unfolding turnQuestions every
 turn-yes w x j y =
     let y₂ = both-right _ _ y in
@@ -134,7 +134,7 @@ turn-yes w x j y =
     let y₉ = both-right _ _ y₈ in
     record { below = both-left _ _ y₄; open8 = both-left _ _ y₈; left9 = both-left _ _ y₉ }
 
-busy-of : (r : Record) → question8 r ≡ true → question7 r ≡ false
+pub busy-of : (r : Record) → question8 r ≡ true → question7 r ≡ false
 unfolding question8
 busy-of r q = not-true _ q
 
@@ -147,7 +147,7 @@ module _ {w : ℕ} {s₀ : Settings} {x : State} {k : ℕ} {os : List Opened} {c
   abbrev ToldAfter : Event → Result → Type 0
   ToldAfter e r = last (after r) ≡ toldBy i e (r .reply) (last x)
 
-  place-room : workerPlace w i + 10 ≤ length (x .areas .workers)
+  pub place-room : workerPlace w i + 10 ≤ length (x .areas .workers)
   unfolding workerPlace
   place-room = let n = place-next w here in let g = a .fine .room in let b = word-room w in omega arith
 
@@ -182,7 +182,7 @@ module _ {w : ℕ} {s₀ : Settings} {x : State} {k : ℕ} {os : List Opened} {c
     full-told (no d) = ap lastOf (other-head w _ i j (x .areas .workers) (full-formed w _) d) ∙ sym (told-other-turn i j _ _ d)
 
     -- the record after a turn of the table's worker has room in its words
-    formed : TurnYes w x j → WellFormed w (stepped .record′)
+    pub formed : TurnYes w x j → WellFormed w (stepped .record′)
     formed y =
         let h = below a (y .below) in
         let K = turn-ok (at (a .fine) j h) (busy-of (recordOf w (x .areas) j) (y .open8)) (y .left9) in
@@ -216,7 +216,7 @@ module _ {w : ℕ} {s₀ : Settings} {x : State} {k : ℕ} {os : List Opened} {c
   event-told (turns j) = turn-told j
 
 -- any events more
-sequence-told : {w : ℕ} {s₀ : Settings} (es : List Event) (x : State) {k : ℕ} {os : List Opened} {cs : List Call} → Along w s₀ x k os cs → (i : ℕ) → i < s₀ .workers → lastOf (recordOf w (stateAfter w es x .areas) i .head) ≡ told i (history w es x) (lastOf (recordOf w (x .areas) i .head))
+pub sequence-told : {w : ℕ} {s₀ : Settings} (es : List Event) (x : State) {k : ℕ} {os : List Opened} {cs : List Call} → Along w s₀ x k os cs → (i : ℕ) → i < s₀ .workers → lastOf (recordOf w (stateAfter w es x .areas) i .head) ≡ told i (history w es x) (lastOf (recordOf w (x .areas) i .head))
 unfolding stateAfter history told
 sequence-told [] x a i h = refl
 sequence-told {w} (e ∷ es) x a i h =
@@ -224,7 +224,7 @@ sequence-told {w} (e ∷ es) x a i h =
     ∙ ap (told i (history w es (after (happens w e x)))) (event-told a i h e)
 
 -- after an opening a record is the one of zeros
-opened-record : (w : ℕ) (s : Settings) (a : Areas) (i : ℕ) → i < s .workers → question2Of w s a ≡ true → recordOf w (openedAreas w s a) i ≡ idle
+pub opened-record : (w : ℕ) (s : Settings) (a : Areas) (i : ℕ) → i < s .workers → question2Of w s a ≡ true → recordOf w (openedAreas w s a) i ≡ idle
 unfolding openedAreas
 opened-record w s a i h q = zero-record w (a .workers) (s .workers) i h (room w s (length (a .nodes)) (length (a .levels)) (length (a .workers)) q .workers)
 

@@ -60,8 +60,13 @@ pub mod Theorem
 pub mod Operated
 pub mod Tells
 pub mod LastAnswers
+pub mod OpenCalls
+pub mod Previous
 pub mod Consequences
 pub mod ExcessWords
 pub mod ExcessRecords
 pub mod ExcessActs
 pub mod Excess
+pub mod Access
+pub mod Closes
+pub mod Openings

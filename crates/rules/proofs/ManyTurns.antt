@@ -5,9 +5,10 @@ use mathlib.Core.Path.{_≡_, refl, sym, ap, _∙_}
 use mathlib.Core.Logic.{_≢_}
 use mathlib.Core.Bool.{true, false, not}
 use mathlib.Core.List.{List, [], _∷_, _++_}
+use native.Mathlib.Decide.{ℕ-discrete}
 use native.Mathlib.Omega.{arith}
 use Rattle.words.specs.Choice.{both, every, firstNo}
-use Rattle.words.proofs.Choice.{pick-both, pick-false}
+use Rattle.words.proofs.Choice.{pick-both, pick-true, pick-false}
 use Rattle.settings.specs.declared.Settings.{Settings}
 use Rattle.areas.specs.Memory.{Areas}
 use Rattle.rules.specs.Operations.{refused}
@@ -30,6 +31,15 @@ pub six-given : (w : ℕ) (vs : List Visit) → listNumber w vs ≡ 6 → every 
 unfolding listNumber
 six-given w vs = pick-both (λ m. m ≡ 6 → every (λ v. not (metSix w v)) vs ≡ false) _ (λ e d. absurd (omega arith)) (λ e d. e)
 
+-- 0 where none does, and only there
+gives-none : (w : ℕ) (vs : List Visit) → every (λ v. not (metSix w v)) vs ≡ true → listNumber w vs ≡ 0
+unfolding listNumber
+gives-none w vs = pick-true _ _ _
+
+none-given : (w : ℕ) (vs : List Visit) → listNumber w vs ≡ 0 → every (λ v. not (metSix w v)) vs ≡ true
+unfolding listNumber
+none-given w vs = pick-both (λ m. m ≡ 0 → every (λ v. not (metSix w v)) vs ≡ true) _ (λ e d. e) (λ e d. absurd (omega arith))
+
 module _ (w : ℕ) (s : Settings) (l : List ℕ) (limit : ℕ) (a : Areas) where
   -- the questions have the numbers 1 to 4
   list-asks : Without 0 (listQuestions w s l a)
@@ -50,6 +60,23 @@ module _ (w : ℕ) (s : Settings) (l : List ℕ) (limit : ℕ) (a : Areas) where
   pub list-carried : firstNo (listQuestions w s l a) ≡ 0 → turns w s l limit a ≡ turnsResult w (state s a) (visits w l limit (state s a))
   unfolding turns
   list-carried z = unless-carried s a _ _ z
+
+  -- 0: every answer was yes
+  zero-carried : turns w s l limit a .reply .number ≡ 0 → firstNo (listQuestions w s l a) ≡ 0
+  unfolding turns
+  zero-carried e = by (ℕ-discrete (firstNo (listQuestions w s l a)) 0)
+    where
+      by : Dec (firstNo (listQuestions w s l a) ≡ 0) → firstNo (listQuestions w s l a) ≡ 0
+      by (yes z) = z
+      by (no z) = absurd (z (sym (ap (λ r. r .reply .number) (unless-refused s a _ _ z)) ∙ e))
+
+  list-zero : Iff (turns w s l limit a .reply .number ≡ 0) (AllYes (listQuestions w s l a) × (every (λ v. not (metSix w v)) (visits w l limit (state s a)) ≡ true))
+  list-zero = (
+    λ e.
+        let z = zero-carried e in
+        (gives-all-yes _ list-asks z, none-given w _ (sym result-number ∙ (ap (λ r. r .reply .number) (sym (list-carried z)) ∙ e))),
+    λ (y, o). ap (λ r. r .reply .number) (list-carried (all-yes _ y)) ∙ (result-number ∙ gives-none w _ o),
+  )
 
   -- 1 to 4: the first no
   list-refusal : (n : ℕ) → n ≢ 0 → n ≢ 6 → Iff (turns w s l limit a .reply .number ≡ n) (FirstNo n (listQuestions w s l a))
@@ -102,6 +129,7 @@ module _ (w : ℕ) (s : Settings) (l : List ℕ) (limit : ℕ) (a : Areas) where
   pub refuses-list : RefusesList w s l limit a
   refuses-list =
       record {
+        carried = list-zero;
         refusal = list-refusal;
         unchanged = λ h g. (list-unchanged h g, ap after (list-unchanged h g));
         six = (λ e. (gives-all-yes _ list-asks (six-carried e), met-six e), λ (y, m). gives-met-six y m);

@@ -1,7 +1,7 @@
 -- What the words reach from the root is what the world has published and placed.
 -- Relies on what the words show and on the theory's own reached.
 use Prim.Native.Nat.{ℕ, _*_, _-_, _/_, _≤_, _<_}
-use mathlib.Core.Path.{_≡_, sym, ap, _∙_}
+use mathlib.Core.Path.{_≡_, refl, sym, ap, _∙_}
 use mathlib.Core.Logic.{_≢_}
 use native.Mathlib.Omega.{arith}
 use native.Mathlib.Nat.{mul-le-mul}
@@ -79,3 +79,10 @@ module _ {w : ℕ} {s₀ s : Settings} {m : Memory} {W : WorldOf w s₀} (T : Ta
 
   pub placed-reached : (n : ℕ) → Placed W n → Reached w m (nodeRef n)
   placed-reached n p = to-words (theory.node-reached S n p)
+
+  -- the reached levels are the published ones
+  pub reached-published : (g : ℕ) → Reached w m (levelRef g) → Published (W .tree) g
+  reached-published g r = level-of (theory.reached-real S (to-world r))
+
+  pub published-reached : (g : ℕ) → Published (W .tree) g → Reached w m (levelRef g)
+  published-reached g p = to-words (theory.level-reached S (W .tree .depth g) refl p)

@@ -16,7 +16,7 @@ use Rattle.record.specs.declared.Answer.the-variants.{Nothing, Full, Open}
 use Rattle.rules.specs.Heads.{ended}
 use Rattle.rules.specs.Acts.{act}
 use Rattle.rules.specs.Asked.{question4, question7, question8, question9}
-use Rattle.rules.specs.Operations.{Result, recordOf, taken, full, fullRecord, turn, turnQuestions}
+use Rattle.rules.specs.Operations.{Result, recordOf, memoryOf, taken, full, fullRecord, turn, turnQuestions}
 use Rattle.rules.specs.Lists.{State, after}
 use Rattle.rules.specs.Calls.{Call, Opened, turns, happens, leftOpen, opens, ends, endsWith, endingAnswer, ending}
 use Rattle.rules.specs.Demands.{EventOk}
@@ -26,7 +26,7 @@ use Rattle.trie.proofs.Levels.{levels-stay}
 use Rattle.trie.proofs.Whole.{idle, Worker, is-idle, stay-step}
 use Rattle.rules.proofs.Questions.{first-later, first-yes, none-given, last-no}
 use Rattle.rules.proofs.OneTurn.{turn-number, done-number, nine-is-full, turn-refused, turn-leaves}
-use Rattle.rules.proofs.Invariant.{WorldOf, at, Rowing, goes, ends-new, ends-found}
+use Rattle.rules.proofs.Invariant.{WorldOf, at, TurnOk, Rowing, goes, ends-new, ends-found}
 use Rattle.rules.proofs.Matches.{rests}
 use Rattle.rules.proofs.Idle.{busy-acts}
 use Rattle.rules.proofs.Asking.{asks-ok, turn-ok}
@@ -96,6 +96,12 @@ module _ {w : ℕ} {s₀ : Settings} {x : State} {k : ℕ} {os : List Opened} {c
       let (y₈, e₈) = first-later 8 _ _ (λ z. omega arith) (sym (first-yes 6 _ f) ∙ e₄) in
       let (y₉, e₉) = first-later 9 _ _ (λ z. omega arith) e₈ in
       none-given (λ z. omega arith) e₉
+
+  -- what a turn that is carried out leaves of the invariant
+  pub carried-ok : turn w (x .settings) i (x .areas) .reply .number ≡ 0 → TurnOk w s₀ (a .world) (a .workers) i (act w (x .settings) (recordOf w (x .areas) i) (memoryOf (x .areas)))
+  carried-ok z =
+      let o = turn-open w x i (inl refl) z in
+      turn-ok (at (a .fine) i (below a (o .below))) (o .busy) (first-later 9 _ _ (λ y. omega arith) (o .gives) .0)
 
   -- the turn is taken
   turn-carried : turn w (x .settings) i (x .areas) .reply .number ≡ 0 → Along w s₀ (after (turn w (x .settings) i (x .areas))) (suc k) (leftOpen i (turn w (x .settings) i (x .areas) .reply .answer) os) (cs ++ endsWith i k (turn w (x .settings) i (x .areas) .reply .answer) os)

@@ -13,7 +13,12 @@ pub mod Reached
 pub mod Calls
 pub mod Refusals
 pub mod Excess
+pub mod Access
+pub mod Closes
+pub mod Openings
 pub mod Demands
 pub mod LastAnswers
+pub mod OpenCalls
+pub mod Previous
 pub mod Consequences
 pub mod Sequences

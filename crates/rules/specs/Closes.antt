@@ -1,0 +1,28 @@
+-- Demand 1's one exception: ""full" closes its call" and changes nothing else, over settings and memory of any content.
+-- Relies on the operations' definitions, on settings for the sizes.
+use Prim.Native.Nat.{ℕ, _+_, _*_, _≤_, _<_}
+use mathlib.Core.Path.{_≡_}
+use mathlib.Core.Logic.{_⊎_}
+use mathlib.Core.Bool.{true}
+use lib.ListN.{getD, length}
+use Rattle.settings.specs.Sizes.{workerWords}
+use Rattle.settings.specs.declared.Settings.{Settings}
+use Rattle.areas.specs.Memory.{Areas}
+use Rattle.record.specs.declared.Answer.the-variants.{Full}
+use Rattle.rules.specs.Asked.{question7}
+use Rattle.rules.specs.Operations.{Result, recordOf, turn, lastOf}
+
+-- "Number 9 alone makes the worker idle with answer "full"."
+pub record Closes (w : ℕ) (s : Settings) (i : ℕ) (a : Areas) (r : Result) : Type 0 where
+  pub settings-stay : r .reply .settings ≡ s
+  pub nodes-stay : r .areas .nodes ≡ a .nodes
+  pub levels-stay : r .areas .levels ≡ a .levels
+  -- every word of the workers but the ten of this worker's head
+  pub size-stays : length (r .areas .workers) ≡ length (a .workers)
+  pub words-stay : (k : ℕ) → (k < workerWords w * i) ⊎ (workerWords w * i + 10 ≤ k) → getD (r .areas .workers) k 0 ≡ getD (a .workers) k 0
+  -- the worker is idle, and its last answer is "full"
+  pub idle : question7 (recordOf w (r .areas) i) ≡ true
+  pub told : lastOf (recordOf w (r .areas) i .head) ≡ Full
+
+abbrev pub FullCloses : ℕ → Type 0
+FullCloses w = (s : Settings) (i : ℕ) (a : Areas) → turn w s i a .reply .number ≡ 9 → Closes w s i a (turn w s i a)
