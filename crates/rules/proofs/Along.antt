@@ -7,7 +7,7 @@ use mathlib.Core.Bool.{true}
 use mathlib.Core.List.{List, [], _∷_, _++_}
 use native.Mathlib.Decide.{ℕ-discrete}
 use lib.Dec.{eqb}
-use borrow.Author.Tests.{eq-eqb, ne-eqb, ltb-true}
+use borrow.Author.Tests.{eq-eqb, ne-eqb}
 use Rattle.words.specs.Choice.{pick}
 use Rattle.words.proofs.Choice.{pick-true, pick-false}
 use Rattle.settings.specs.declared.Settings.{Settings}
@@ -21,6 +21,7 @@ use Rattle.trie.proofs.Update.{upd, upd-same, upd-other}
 use Rattle.trie.proofs.Whole.{idle, Worker}
 use Rattle.rules.proofs.RowTurns.{Newest, RowAfter, row-waits}
 use Rattle.rules.proofs.Invariant.{WorldOf, Fine, Rowing, goes, ends-new, ends-found}
+use Rattle.rules.proofs.FineQuestions.{worker-of}
 
 -- after k events, with the calls that are open and the calls that ended
 pub record Along (w : ℕ) (s₀ : Settings) (x : State) (k : ℕ) (os : List Opened) (cs : List Call) : Type 0 where
@@ -34,8 +35,7 @@ pub record Along (w : ℕ) (s₀ : Settings) (x : State) (k : ℕ) (os : List Op
 
 -- question 4: the worker is one of the table
 pub below : {w : ℕ} {s₀ : Settings} {x : State} {k : ℕ} {os : List Opened} {cs : List Call} → Along w s₀ x k os cs → {i : ℕ} → question4 (x .settings) i ≡ true → i < s₀ .workers
-unfolding question4
-below {x = x} a {i} q = let l : i < x .settings .workers = ltb-true _ _ q in rw (a .fine .table .same .workers-is) at l
+below a q = worker-of (a .fine) q
 
 -- an event that is refused: time passes
 pub along-waits : {w : ℕ} {s₀ : Settings} {x : State} {k : ℕ} {os : List Opened} {cs : List Call} → Along w s₀ x k os cs → Along w s₀ x (suc k) os (cs ++ [])

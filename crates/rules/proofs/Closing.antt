@@ -1,6 +1,6 @@
 -- Close and SetClose: question 6 holds; done, the chain is closed by the level in hand and a Move of it begins.
 -- Relies on where the worker stands, on what it holds and on the theory's closing of a chain.
-use Prim.Native.Nat.{ℕ, suc, _-_}
+use Prim.Native.Nat.{ℕ, suc, _-_, _<_}
 use mathlib.Core.Path.{_≡_, refl, sym, subst}
 use mathlib.Core.Logic.{_≢_}
 use mathlib.Core.Bool.{true}
@@ -8,6 +8,7 @@ use mathlib.Core.List.{List, [], _∷_}
 use lib.ListN.{length}
 use native.Mathlib.Omega.{arith}
 use Rattle.words.proofs.Choice.{pick-both, both-true}
+use Rattle.settings.specs.Sizes.{levelCount}
 use Rattle.settings.specs.declared.Settings.{Settings}
 use Rattle.areas.specs.Memory.{Memory, levelRef, cellAt, setCell}
 use Rattle.areas.specs.declared.Cell.the-variants.{Next}
@@ -19,19 +20,20 @@ use Rattle.rules.specs.Heads.{to, holdingLevel}
 use Rattle.rules.specs.Steps.{going, expected, closed}
 use Rattle.rules.specs.Asked.{closes}
 use Rattle.trie.proofs.Digits.{digit}
-use Rattle.trie.proofs.Update.{upd, nxt}
+use Rattle.trie.proofs.Update.{upd, upd-same, nxt}
 use Rattle.trie.proofs.World.{lastCell}
-use Rattle.trie.proofs.Fresh.{fresh-keep}
+use Rattle.trie.proofs.Fresh.{owned-taken, fresh-keep}
 use Rattle.trie.proofs.Close.{close, CanClose, close-grows}
 use Rattle.trie.proofs.Stand.{at-node}
 use Rattle.trie.proofs.Search.{word}
 use Rattle.trie.proofs.Move.{Frame, gather}
+use Rattle.trie.proofs.Falls.{close-falls}
 use Rattle.trie.proofs.Levels.{levels-close}
 use Rattle.trie.proofs.Whole.{moving, Worker, Inv, owner}
 use Rattle.trie.proofs.Turns as turns
 use Rattle.rules.proofs.Dims.{dims}
 use Rattle.rules.proofs.Matches.{Frames, more, moves, gathers}
-use Rattle.rules.proofs.Invariant.{WorldOf, At, TurnOk, goes}
+use Rattle.rules.proofs.Invariant.{WorldOf, keeps, At, TurnOk, goes}
 use Rattle.rules.proofs.Holding.{level-owned, level-hand-ok}
 use Rattle.rules.proofs.MoveRecords.{framed-new}
 use Rattle.rules.proofs.Standing.{Standing, stands-ok, spot-cell, spot-taken, here-reads, other-reads, ends-here}
@@ -51,6 +53,10 @@ module _ {w : ℕ} {s₀ s : Settings} {m : Memory} {W : WorldOf w s₀} {ws : �
 
   -- the Moves around it, and what the theory makes of the exchange
   module _ {vs : List Move} {fs : List Frame} (js : Frames vs fs) (can : word W K H (at-node R C) ≡ levelRef H → CanClose W H digit′ G × (length (W .chain H digit′) ≡ s₀ .limit)) (steps : word W K H (at-node R C) ≡ levelRef H → Inv (close W H digit′ G (owner i)) (upd ws i (turns.does (turns.withLevel (ws i) 0) (moving begun fs gather)))) where
+    -- the level in hand is one of the table's
+    room : G < levelCount w s₀
+    room = omega (arith, a .table .levels-le, owned-taken (a .table .levels-fresh) G (level-owned a hand))
+
     close-done : word W K H (at-node R C) ≡ levelRef H → TurnOk w s₀ W ws i (going s (holdingLevel ChainHead 0 (r .head)) (newMove (r .head .level) G ∷ vs) (setCell w m (Next (r .head .node)) (levelRef G)))
     unfolding holdingLevel
     close-done q =
@@ -65,6 +71,8 @@ module _ {w : ℕ} {s₀ s : Settings} {m : Memory} {W : WorldOf w s₀} {ws : �
           levels = levels-close (a .levels) i (a .here) S (can q .0) (owner i) c (can q .1) hand refl;
           matches = record { pixel-is = a .matches .pixel-is; node-is = a .matches .node-is; level-is = refl; doing = moves refl (more (framed-new (r .head .level) G H K (o .level-is)) js) gathers };
           rowing = goes (close-grows S (can q .0) (owner i)) refl still-moving refl refl;
+          falls = λ y. close-falls S (levelCount w s₀) (owner i) (can q .0) room (rw upd-same at (steps q .each i .acts));
+          held = keeps (a .table .nodes-fresh) refl;
         }
 
     -- done, or failed and going on as is given

@@ -1,6 +1,6 @@
 -- A call that ends "full": the worker was about to take a node, and none was left.
 -- Relies on what a record shows, on the kinds by number and on the theory's clause of a worker that takes a node.
-use Prim.Native.Nat.{ℕ, _≤_}
+use Prim.Native.Nat.{ℕ, _≤_, _<_}
 use mathlib.Core.Path.{_≡_, refl, ap}
 use mathlib.Core.Logic.{inl, inr}
 use mathlib.Core.Bool.{true, false}
@@ -14,13 +14,20 @@ use Rattle.record.specs.declared.Kind.{Kind}
 use Rattle.record.specs.declared.Kind.the-variants.{Idle}
 use Rattle.record.specs.Kinds.{kindNo}
 use Rattle.record.specs.Layout.{Record}
+use Rattle.rules.specs.Heads.{ended}
 use Rattle.rules.specs.Asked.{takesNode, nodeLeft, question9}
+use Rattle.rules.specs.Operations.{full, fullRecord}
+use Rattle.rules.specs.Lists.{State, after}
+use Rattle.trie.proofs.Update.{upd}
+use Rattle.trie.proofs.Evolve.{grows-refl}
+use Rattle.trie.proofs.Levels.{levels-stay}
 use Rattle.trie.proofs.Search as clause
 use Rattle.trie.proofs.Search.{Phase, Local, Unseen}
-use Rattle.trie.proofs.Whole.{Act, searching, Worker, ActOk, is-searching, owner}
+use Rattle.trie.proofs.Whole.{Act, idle, searching, Worker, ActOk, is-idle, is-searching, owner, stay-step}
 use Rattle.rules.proofs.Matches.{Doing, rests, searches, moves}
 use Rattle.rules.proofs.KindNumbers.{Fetching, Takes, takes-low, search-takes, step-no}
-use Rattle.rules.proofs.Invariant.{WorldOf, At}
+use Rattle.rules.proofs.Invariant.{WorldOf, At, Fine}
+use Rattle.rules.proofs.Stored.{fine-after}
 
 -- Take and TakeTail by number
 takes-number : (k : Kind) → takesNode k ≡ true → Takes (kindNo k)
@@ -69,3 +76,15 @@ module _ {w : ℕ} {s₀ s : Settings} {m : Memory} {W : WorldOf w s₀} {ws : �
       by (rests e v z) q = absurd (omega (arith, takes-low n, idle-no e))
       by (searches {p = p} e v z) q = act-seen (search-takes p (rw e at n)) (rw q at (a .inv .each i .acts))
       by (moves {f} {fs} {s = p} e v z) q = absurd (omega (arith, takes-low n, step-no f p, ap kindNo e))
+
+-- the worker after it
+abbrev pub stopped : Worker → Worker
+stopped c = record { key = c .key; since = c .since; node = c .node; level = c .level; act = idle }
+
+-- and the state
+pub fine-full : {w : ℕ} {s₀ : Settings} {x : State} {W : WorldOf w s₀} {ws : ℕ → Worker} (F : Fine w s₀ x W ws) (i : ℕ) → i < s₀ .workers → Fine w s₀ (after (full w (x .settings) i (x .areas))) W (upd ws i (stopped (ws i)))
+unfolding full fullRecord ended
+fine-full {W = W} {ws = ws} F i h =
+    let M = F .records i h in
+    let I = stay-step (F .inv) i (stopped (ws i)) (record { acts = is-idle; holds-node = F .inv .each i .holds-node; holds-level = F .inv .each i .holds-level }) in
+    fine-after F i h (F .table) I (levels-stay (F .levels) i h (stopped (ws i)) (grows-refl W) refl) (record { pixel-is = M .pixel-is; node-is = M .node-is; level-is = M .level-is; doing = rests refl refl (omega arith) })

@@ -1,6 +1,6 @@
 -- The invariant of a state: the words show a world, the records show its workers, the counters count, and the row reads its book.
 -- Relies on the theory's invariant, level count and row, and on what the words and records show.
-use Prim.Native.Nat.{ℕ, _*_, _≤_, _<_}
+use Prim.Native.Nat.{ℕ, suc, _*_, _≤_, _<_}
 use mathlib.Core.Path.{_≡_}
 use mathlib.Core.Logic.{_≢_}
 use mathlib.Core.Bool.{true}
@@ -20,8 +20,11 @@ use Rattle.trie.proofs.World.{World, Placed}
 use Rattle.trie.proofs.Evolve.{Grows}
 use Rattle.trie.proofs.Place.{place, CanPlace}
 use Rattle.trie.proofs.Fresh.{Fresh}
+use Rattle.trie.proofs.Stand.{Pos}
+use Rattle.trie.proofs.Search.{fetch}
+use Rattle.trie.proofs.Falls.{Falls}
 use Rattle.trie.proofs.Levels.{Levels}
-use Rattle.trie.proofs.Whole.{idle, Worker, Inv}
+use Rattle.trie.proofs.Whole.{idle, searching, Worker, Inv}
 use Rattle.rules.proofs.Dims.{dims, Width}
 use Rattle.rules.proofs.Words.{Shows}
 use Rattle.rules.proofs.Matches.{Matches}
@@ -53,6 +56,13 @@ pub data Rowing {δ : Dims} (W W′ : World δ) (c c′ : Worker) : Answer → T
   ends-new : {H e n : ℕ} → CanPlace W H e n → W .pixel n ≡ c .key → W′ ≡ place W H e n → c′ .act ≡ idle → Rowing W W′ c c′ (New n)
   ends-found : {R : ℕ} → Placed W R → W .pixel R ≡ c .key → W′ ≡ W → c′ .act ≡ idle → Rowing W W′ c c′ (Found R)
 
+-- the node that a worker holds over a turn, with the nodes taken after it: the one that it held; a next number, which a call took that wanted a node; none, the node is placed
+pub data Held {δ : Dims} (W : World δ) (c : Worker) (node taken : ℕ) : Answer → Type 0 where
+  keeps : Fresh (W .nodeOwner) taken → node ≡ c .node → Held W c node taken Open
+  took : {H n : ℕ} {x : Pos} → c .act ≡ searching (fetch H x) → c .node ≡ 0 → Fresh (W .nodeOwner) n → node ≡ suc n → taken ≡ suc n → Held W c node taken Open
+  gave : {n : ℕ} → Fresh (W .nodeOwner) taken → c .node ≡ suc n → node ≡ 0 → Held W c node taken (New n)
+  kept : {R : ℕ} → Fresh (W .nodeOwner) taken → node ≡ c .node → Held W c node taken (Found R)
+
 -- what is known where worker i, whose record is r, has a turn
 pub record At (w : ℕ) (s₀ s : Settings) (m : Memory) (W : WorldOf w s₀) (ws : ℕ → Worker) (i : ℕ) (r : Record) : Type 0 where
   pub table : Table w s₀ s m W
@@ -70,6 +80,9 @@ pub record TurnOk (w : ℕ) (s₀ : Settings) (W : WorldOf w s₀) (ws : ℕ →
   pub levels : Levels world (upd ws i worker) (s₀ .workers) (t .settings .«levels_taken»)
   pub matches : Matches (t .record′) worker
   pub rowing : Rowing W world (ws i) worker (t .answer)
+  -- a turn after which the call goes on leaves less to do
+  pub falls : worker .act ≢ idle → Falls (levelCount w s₀) W world (ws i .act) (worker .act)
+  pub held : Held W (ws i) (worker .node) (t .settings .«nodes_taken») (t .answer)
 
 -- the state between two operations
 pub record Fine (w : ℕ) (s₀ : Settings) (x : State) (W : WorldOf w s₀) (ws : ℕ → Worker) : Type 0 where

@@ -8,13 +8,12 @@ use mathlib.Core.List.{List, [], _∷_}
 use native.Mathlib.Decide.{ℕ-discrete}
 use native.Mathlib.Omega.{arith}
 use lib.ListN.{length}
-use borrow.Author.Tests.{eq-eqb, ne-eqb, lt-ltb, le-leb, not-true}
+use borrow.Author.Tests.{eq-eqb, ne-eqb}
 use Rattle.words.specs.Choice.{pick, every}
 use Rattle.words.proofs.Choice.{pick-both, pick-true, pick-false, both-left, both-right, both-true}
-use Rattle.settings.specs.Sizes.{question1, question2, question3, levelCount, within, workerWords}
+use Rattle.settings.specs.Sizes.{question1, workerWords}
 use Rattle.settings.specs.declared.Settings.{Settings}
 use Rattle.settings.proofs.Laws.{room}
-use Rattle.areas.specs.Memory.{Areas}
 use Rattle.record.specs.declared.Answer.{Answer}
 use Rattle.record.specs.declared.Answer.the-variants.{Nothing, Full, Open}
 use Rattle.record.specs.declared.Head.{Head}
@@ -23,13 +22,12 @@ use Rattle.record.specs.Kinds.{kindNo, answerOf}
 use Rattle.record.specs.Layout.{Record, record′, headFrom, headAt, workerPlace, load, store}
 use Rattle.record.proofs.Apart.{cells-same, place-next, room as word-room}
 use Rattle.record.proofs.Records.{WellFormed, idle, head-stored, store-other}
-use Rattle.rules.specs.Opening.{openedAreas}
 use Rattle.rules.specs.Heads.{started, ended}
 use Rattle.rules.specs.Steps.{Step}
 use Rattle.rules.specs.Acts.{act}
 use Rattle.rules.specs.Asked.{question4, question6Record, question7, question8, question9}
 use Rattle.rules.specs.Operations.{Result, result, reply, recordOf, memoryOf, question2Of, openingQuestions, startedAreas, start, turnQuestions, taken, full, fullRecord, turn, lastQuestions, lastOf, lastAnswer}
-use Rattle.rules.specs.Lists.{State, state, after}
+use Rattle.rules.specs.Lists.{State, after}
 use Rattle.rules.specs.Calls.{Event, starts, turns, happens, history, stateAfter, Call, Opened}
 use Rattle.rules.specs.Refusals.{AllYes}
 use Rattle.rules.specs.LastAnswers.{endTold, toldBy, told, ReadsTold, LastAnswers}
@@ -40,10 +38,12 @@ use Rattle.rules.proofs.Carried.{opening-done, start-done}
 use Rattle.rules.proofs.OneTurn.{done-number, nine-is-full, turn-refused, refuses-turn}
 use Rattle.rules.proofs.Refused.{refuses-opening, refuses-start}
 use Rattle.rules.proofs.Invariant.{at}
+use Rattle.rules.proofs.Idle.{busy-of}
+use Rattle.rules.proofs.FineQuestions.{yes-1, yes-2, yes-3, yes-4}
 use Rattle.rules.proofs.Fitting.{no-moves, well-formed, fits-ok}
 use Rattle.rules.proofs.Asking.{turn-ok}
 use Rattle.rules.proofs.Along.{Along, below}
-use Rattle.rules.proofs.Opened.{zero-record, along-opened}
+use Rattle.rules.proofs.Opened.{opened-record, along-opened}
 use Rattle.rules.proofs.Sequence.{event-along, run-along}
 use Rattle.rules.proofs.Tells.{Said, says-open, says-new, says-found, Tells, act-tells}
 
@@ -134,10 +134,6 @@ turn-yes w x j y =
     let y₉ = both-right _ _ y₈ in
     record { below = both-left _ _ y₄; open8 = both-left _ _ y₈; left9 = both-left _ _ y₉ }
 
-pub busy-of : (r : Record) → question8 r ≡ true → question7 r ≡ false
-unfolding question8
-busy-of r q = not-true _ q
-
 module _ {w : ℕ} {s₀ : Settings} {x : State} {k : ℕ} {os : List Opened} {cs : List Call} (a : Along w s₀ x k os cs) (i : ℕ) (here : i < s₀ .workers) where
   -- what worker i's record tells
   abbrev last : State → Answer
@@ -223,43 +219,11 @@ sequence-told {w} (e ∷ es) x a i h =
     sequence-told es (after (happens w e x)) (event-along a e) i h
     ∙ ap (told i (history w es (after (happens w e x)))) (event-told a i h e)
 
--- after an opening a record is the one of zeros
-pub opened-record : (w : ℕ) (s : Settings) (a : Areas) (i : ℕ) → i < s .workers → question2Of w s a ≡ true → recordOf w (openedAreas w s a) i ≡ idle
-unfolding openedAreas
-opened-record w s a i h q = zero-record w (a .workers) (s .workers) i h (room w s (length (a .nodes)) (length (a .levels)) (length (a .workers)) q .workers)
-
 -- the questions of a last answer are answered yes
 module _ {w : ℕ} {s₀ : Settings} {x : State} {k : ℕ} {os : List Opened} {cs : List Call} (a : Along w s₀ x k os cs) (i : ℕ) (here : i < s₀ .workers) where
-  same-levels : levelCount w (x .settings) ≡ levelCount w s₀
-  unfolding levelCount
-  same-levels = let S = a .fine .table .same in rw (S .workers-is, S .limit-is, S .nodes-is) refl
-
-  yes-1 : question1 (x .settings) ≡ true
-  unfolding question1
-  yes-1 = let S = a .fine .table .same in rw (S .workers-is, S .limit-is, S .nodes-is) (a .fine .table .ranges)
-
-  yes-2 : question2Of w (x .settings) (x .areas) ≡ true
-  unfolding question2
-  yes-2 =
-      let S = a .fine .table .same in
-      rw (same-levels, S .nodes-is, S .workers-is)
-      (both-true (le-leb _ _ (a .fine .table .shows .node-room)) (both-true (le-leb _ _ (a .fine .table .shows .level-room)) (le-leb _ _ (a .fine .room))))
-
-  yes-3 : question3 w (x .settings) ≡ true
-  unfolding question3 within
-  yes-3 =
-      let t = a .fine .levels .total in
-      let l : 1 ≤ x .settings .«levels_taken» = omega arith in
-      rw (same-levels, a .fine .table .same .nodes-is)
-      (both-true (le-leb _ _ (a .fine .table .nodes-le)) (both-true (le-leb _ _ l) (le-leb _ _ (a .fine .table .levels-le))))
-
-  yes-4 : question4 (x .settings) i ≡ true
-  unfolding question4
-  yes-4 = rw (a .fine .table .same .workers-is) (lt-ltb _ _ here)
-
   last-yes : AllYes (lastQuestions w (x .settings) i (x .areas))
   unfolding lastQuestions every question6Record
-  last-yes = both-true yes-1 (both-true yes-2 (both-true yes-3 (both-true yes-4 (both-true (fits-ok (at (a .fine) i here)) refl))))
+  last-yes = let F = a .fine in both-true (yes-1 F) (both-true (yes-2 F) (both-true (yes-3 F) (both-true (yes-4 F i here) (both-true (fits-ok (at F i here)) refl))))
 
   -- so it is given, as the record tells it
   last-given : lastAnswer w (x .settings) i (x .areas) ≡ result (reply 0 (lastOf (recordOf w (x .areas) i .head)) 0 (x .settings)) (x .areas)

@@ -12,6 +12,7 @@ pub mod Words
 pub mod Matches
 pub mod KindNumbers
 pub mod Invariant
+pub mod FineQuestions
 pub mod Reading
 pub mod Standing
 pub mod Turned
@@ -42,8 +43,8 @@ pub mod FitsMoves
 pub mod Fitting
 pub mod Asking
 pub mod Idle
-pub mod Ending
 pub mod Stored
+pub mod Ending
 pub mod RowBook
 pub mod RowEnds
 pub mod RowSteps
@@ -58,6 +59,13 @@ pub mod Counting
 pub mod Reach
 pub mod Theorem
 pub mod Operated
+pub mod AloneTurn
+pub mod AloneHolds
+pub mod Alone
+pub mod AloneAnswers
+pub mod AloneNext
+pub mod Flat
+pub mod CallsAlone
 pub mod Tells
 pub mod LastAnswers
 pub mod OpenCalls

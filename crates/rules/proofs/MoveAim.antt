@@ -5,6 +5,7 @@ use mathlib.Core.Path.{_≡_, refl}
 use mathlib.Core.Bool.{true}
 use mathlib.Core.List.{List, _∷_}
 use Rattle.words.proofs.Choice.{both-true}
+use Rattle.settings.specs.Sizes.{levelCount}
 use Rattle.settings.specs.declared.Settings.{Settings}
 use Rattle.areas.specs.Memory.{Memory, levelRef, setCell}
 use Rattle.areas.specs.declared.Cell.the-variants.{Next}
@@ -23,6 +24,7 @@ use Rattle.trie.proofs.Search.{peek}
 use Rattle.trie.proofs.Move.{Frame, edge, aim, aims, last-placed, last-cell}
 use Rattle.trie.proofs.MoveTurns.{can-aim}
 use Rattle.trie.proofs.Redirect.{redirect, redirect-grows}
+use Rattle.trie.proofs.MoveFalls.{aim-falls}
 use Rattle.trie.proofs.Whole.{Worker, ActOk, is-moving, moving, owner}
 use Rattle.trie.proofs.Turns.{aim-turn}
 use Rattle.rules.proofs.Matches.{Framed, Frames, more, entry, peeks}
@@ -32,7 +34,7 @@ use Rattle.rules.proofs.MoveRecords.{last-is}
 use Rattle.rules.proofs.Turned.{table-with, written}
 use Rattle.rules.proofs.MoveOn.{next-set, moves-on}
 
-module _ {w : ℕ} {s₀ s : Settings} {m : Memory} {W : WorldOf w s₀} {ws : ℕ → Worker} {i : ℕ} {h : Head} {v : Move} {os : List Move} {f : Frame} {fs : List Frame} (a : At w s₀ s m W ws i (record′ h (v ∷ os))) (on : Framed v f) (js : Frames os fs) (N : ℕ) {T : ℕ} (l : h .level ≡ T) where
+module _ {w : ℕ} {s₀ s : Settings} {m : Memory} {W : WorldOf w s₀} {ws : ℕ → Worker} {i : ℕ} {h : Head} {v : Move} {os : List Move} {f : Frame} {fs : List Frame} (a : At w s₀ s m W ws i (record′ h (v ∷ os))) (on : Framed v f) (js : Frames os fs) (N : ℕ) {T : ℕ} (l : h .level ≡ T) (now : ws i .act ≡ moving f fs (aim N T)) where
   pub aim-asks : ActOk W (owner i) (ws i .key) (ws i .since) (moving f fs (aim N T)) → readsBy SetNext w s h (v ∷ os) m ≡ true
   unfolding readsBy setNexts inner
   aim-asks (is-moving small b (aims pre k n o j c)) =
@@ -47,4 +49,5 @@ module _ {w : ℕ} {s₀ s : Settings} {m : Memory} {W : WorldOf w s₀} {ws : �
       moves-on a W′ (redirect-grows S (can-aim S pre N k j) (W .mover)) refl
       (table-with (a .table) (setCell w m (Next (lastNode v)) (levelRef (h .level))) W′ (rw (last-is on pre N n, l) x) (a .table .nodes-fresh) (a .table .levels-fresh))
       (aim-turn (a .inv) i (is-moving small b (aims pre k n o j c)))
+      (rw now (aim-falls S (levelCount w s₀) k c (redirect-grows S (can-aim S pre N k j) (W .mover)) refl))
       (next-set (peek T at-entry) (peeks l entry)) (more on js)

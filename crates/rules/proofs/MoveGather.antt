@@ -11,6 +11,7 @@ use borrow.Author.Tests.{le-leb}
 use Rattle.words.specs.Choice.{both}
 use Rattle.words.proofs.Choice.{pick-true, pick-false, both-true}
 use Rattle.words.specs.Digits.{base, depths}
+use Rattle.settings.specs.Sizes.{levelCount}
 use Rattle.settings.specs.declared.Settings.{Settings}
 use Rattle.areas.specs.Memory.{Memory, levelRef, nodeRef, isNode, named, cellAt, nextAt, refTaken}
 use Rattle.record.specs.declared.Kind.the-variants.{ChainNext}
@@ -29,6 +30,7 @@ use Rattle.trie.proofs.World.{Placed}
 use Rattle.trie.proofs.Move.{Frame, edge, gather, Moving, gathers, aims}
 use Rattle.trie.proofs.MoveTurns.{Gathered, one-more, complete, gather-next, frame-published, withNodes}
 use Rattle.trie.proofs.Reached.{a-level, a-node}
+use Rattle.trie.proofs.MoveFalls.{gather-falls, gathered-falls}
 use Rattle.trie.proofs.Whole.{Worker, ActOk, is-moving, moving, owner}
 use Rattle.rules.proofs.Words.{shows-at}
 use Rattle.rules.proofs.Matches.{Framed, Frames, more, gatherKind}
@@ -54,7 +56,7 @@ chain-level : (s : Settings) (h : Head) (v : Move) (os : List Move) (m : Memory)
 unfolding chainWord
 chain-level s h v os m g = pick-false (isNode (levelRef g)) (going s (to ChainNext h) (remember (named (levelRef g)) v ∷ os) m) (setLast s h v os m) (level-ref g)
 
-module _ {w : ℕ} {s₀ s : Settings} {m : Memory} {W : WorldOf w s₀} {ws : ℕ → Worker} {i : ℕ} {h : Head} {v : Move} {os : List Move} {f : Frame} {fs : List Frame} (a : At w s₀ s m W ws i (record′ h (v ∷ os))) (on : Framed v f) (js : Frames os fs) where
+module _ {w : ℕ} {s₀ s : Settings} {m : Memory} {W : WorldOf w s₀} {ws : ℕ → Worker} {i : ℕ} {h : Head} {v : Move} {os : List Move} {f : Frame} {fs : List Frame} (a : At w s₀ s m W ws i (record′ h (v ∷ os))) (on : Framed v f) (js : Frames os fs) (now : ws i .act ≡ moving f fs gather) where
   -- what may stand in the cell after the nodes that are remembered
   abbrev Chain : ℕ → Type 0
   Chain r = Gathered W (owner i) (ws i .key) f fs r
@@ -80,14 +82,14 @@ module _ {w : ℕ} {s₀ s : Settings} {m : Memory} {W : WorldOf w s₀} {ws : �
       both-true (real-taken (a .table) (a-level (f .child) e (frame-published (a .inv .structure) k))) (pick-false (isNode r) (leb (v .count + 1) (s .limit)) true (rw e (level-ref (f .child))))
 
   -- what a turn does with it
-  turn-word : {r : ℕ} → (ws i .key < base w ^ depths w) → ws i .since ≤ length (W .book) → Chain r → TurnOk w s₀ W ws i (chainWord s h v os r m)
-  turn-word small b (one-more n e k) =
+  turn-word : {r : ℕ} → (ws i .key < base w ^ depths w) → ws i .since ≤ length (W .book) → Moving W (owner i) (ws i .key) f fs gather → Chain r → TurnOk w s₀ W ws i (chainWord s h v os r m)
+  turn-word small b (gathers rest g l z c) (one-more n e k) =
       let y = room n k in
       let u = limit-le a in
-      rw (e, chain-node s h v os m n) (reads-on a (is-moving small b k) (next-gather (gather-more (f .nodes) n)) (more (framed-remember on n (omega arith)) js))
-  turn-word small b (complete e N (aims pre k n o j c)) =
+      rw (e, chain-node s h v os m n) (reads-on a (is-moving small b k) (rw now (gather-falls (a .inv .structure) (levelCount w s₀) g c n (omega (arith, l, length-append (f .nodes) rest)))) (next-gather (gather-more (f .nodes) n)) (more (framed-remember on n (omega arith)) js))
+  turn-word small b (gathers rest g l z d) (complete e N (aims pre k n o j c)) =
       let y = last-count on pre N n in
-      rw (e, chain-level s h v os m (f .child), last-aims s h v os m (λ q. omega arith)) (reads-on a (is-moving small b (aims pre k n o j c)) (next-aim (v .child) (on .child-is)) (more on js))
+      rw (e, chain-level s h v os m (f .child), last-aims s h v os m (λ q. omega arith)) (reads-on a (is-moving small b (aims pre k n o j c)) (rw now (gathered-falls (a .inv .structure) (levelCount w s₀) k c (omega (arith, l, length-append (f .nodes) rest)))) (next-aim (v .child) (on .child-is)) (more on js))
 
   abbrev Mine : Type 0
   Mine = ActOk W (owner i) (ws i .key) (ws i .since) (moving f fs gather)
@@ -128,7 +130,7 @@ module _ {w : ℕ} {s₀ s : Settings} {m : Memory} {W : WorldOf w s₀} {ws : �
       o = is-moving small b k
 
       by : (ns : List ℕ) → f .nodes ≡ ns → TurnOk w s₀ W ws i (actBy (gatherKind ns) w s h (v ∷ os) m)
-      by [] e = rw (head-word e o) (turn-word small b (chain o))
+      by [] e = rw (head-word e o) (turn-word small b k (chain o))
       by (n ∷ ns) e =
           let (pre, N, q) = snoc-view (n ∷ ns) (omega arith) in
-          rw (next-word pre N (e ∙ q) o) (turn-word small b (chain o))
+          rw (next-word pre N (e ∙ q) o) (turn-word small b k (chain o))

@@ -6,6 +6,7 @@ use mathlib.Core.Logic.{_≢_}
 use mathlib.Core.Bool.{true}
 use mathlib.Core.List.{List, _∷_}
 use Rattle.words.proofs.Choice.{pick-true, pick-false, both-true}
+use Rattle.settings.specs.Sizes.{levelCount}
 use Rattle.settings.specs.declared.Settings.{Settings}
 use Rattle.areas.specs.Memory.{Memory, levelRef, nodeRef, isNode, named, cellAt}
 use Rattle.record.specs.declared.Kind.the-variants.{SetNext, SetRead, SetTail, SetFollow}
@@ -19,9 +20,11 @@ use Rattle.rules.specs.Acts.{inner, outer, actBy}
 use Rattle.rules.specs.Asked.{readsRef, goesBack, tails, setLooks, setFollows, readsBy}
 use Rattle.trie.proofs.Stand as theory
 use Rattle.trie.proofs.Stand.{Pos, at-entry, at-node, passed}
-use Rattle.trie.proofs.Search.{word}
+use Rattle.trie.proofs.Search.{again, word}
 use Rattle.trie.proofs.Move.{Frame, set-reads}
 use Rattle.trie.proofs.MoveTurns as turns
+use Rattle.trie.proofs.Falls.{onward-less}
+use Rattle.trie.proofs.MoveFalls.{set-falls, set-down-falls}
 use Rattle.trie.proofs.Whole.{Worker, owner}
 use Rattle.rules.proofs.Dims.{dims}
 use Rattle.rules.proofs.Matches.{byPos}
@@ -42,23 +45,23 @@ unfolding setMet
 met-falls s h v os c g t m = ap (λ k. going s k (v ∷ os) m) (pick-false (isNode (levelRef t)) (toNode SetTail (named (levelRef t)) c h) (toLevel SetNext g h) (level-ref t))
 
 module _ {w : ℕ} {s₀ s : Settings} {m : Memory} {W : WorldOf w s₀} {ws : ℕ → Worker} {i : ℕ} {h : Head} {v : Move} {os : List Move} {a : At w s₀ s m W ws i (record′ h (v ∷ os))} {f : Frame} {fs : List Frame} {N T : ℕ} where
-  pub again-asks : (x : Pos) (o : Setter a f fs N T x) → word W (W .pixel N) T x ≢ levelRef T → readsBy (byPos SetRead SetFollow x) w s h (v ∷ os) m ≡ true
+  pub again-asks : (x : Pos) (o : Setter a f fs N (again T x) T x) → word W (W .pixel N) T x ≢ levelRef T → readsBy (byPos SetRead SetFollow x) w s h (v ∷ os) m ≡ true
   unfolding readsBy setLooks setFollows tails readsRef cellAt setCellOf inner
   again-asks at-entry o y = both-true (puts-ok o) (spot-ok a (standing o))
   again-asks (at-node R C) o y =
       both-true (both-true (stands-ok a (standing o)) (spot-ok a (standing o)))
       (ap (λ u. goesBack w (s .«levels_taken») (h .level) u (m .levels)) (spot-reads a (standing o)) ∙ back-ok a (standing o) y)
 
-  again-word : {x : Pos} (o : Setter a f fs N T x) → word W (W .pixel N) T x ≢ levelRef T → {r : ℕ} → r ≡ word W (W .pixel N) T x → TurnOk w s₀ W ws i (setMet s h v os (countFrom s h x) (goesTo w h (m .levels) x (named r)) r m)
+  again-word : {x : Pos} (o : Setter a f fs N (again T x) T x) → word W (W .pixel N) T x ≢ levelRef T → {r : ℕ} → r ≡ word W (W .pixel N) T x → TurnOk w s₀ W ws i (setMet s h v os (countFrom s h x) (goesTo w h (m .levels) x (named r)) r m)
   again-word {x} o y {r} u = by (turns.set-reads-next (a .inv .structure) (a .inv .partition) (sets-by o (set-reads (o .setting) y)))
     where
       by : turns.SetNext W (owner i) (ws i .key) f fs N T x → TurnOk w s₀ W ws i (setMet s h v os (countFrom s h x) (goesTo w h (m .levels) x (named r)) r m)
       by (turns.set-on R e q k) =
-          rw (u ∙ e, met-goes s h v os (countFrom s h x) (goesTo w h (m .levels) x (named (nodeRef R))) R m, count-from a (standing o)) (goes-on o k (next-node R (theory.more (dims w (s₀ .limit)) (passed x)) (o .level-is)))
-      by (turns.set-down t c e q g d k) =
-          rw (u ∙ e, met-falls s h v os (countFrom s h x) (goesTo w h (m .levels) x (named (levelRef t))) t m, named-level t) (goes-on o k (next-aim (goesTo w h (m .levels) x t) (goes-to-is a (standing o) q g d)))
+          rw (u ∙ e, met-goes s h v os (countFrom s h x) (goesTo w h (m .levels) x (named (nodeRef R))) R m, count-from a (standing o)) (goes-on o (set-falls (a .inv .structure) (levelCount w s₀) (o .frame) (o .around) (onward-less (a .inv .structure) (theory.more (dims w (s₀ .limit)) (passed x)) (o .setting .stand) e q)) k (next-node R (theory.more (dims w (s₀ .limit)) (passed x)) (o .level-is)))
+      by (turns.set-down t c e q g d n k) =
+          rw (u ∙ e, met-falls s h v os (countFrom s h x) (goesTo w h (m .levels) x (named (levelRef t))) t m, named-level t) (goes-on o (set-down-falls (a .inv .structure) (levelCount w s₀) (o .frame) (o .around) x (o .setting .path .pub-at) n) k (next-aim (goesTo w h (m .levels) x t) (goes-to-is a (standing o) q g d)))
 
-  pub again-turn : (x : Pos) (o : Setter a f fs N T x) → word W (W .pixel N) T x ≢ levelRef T → TurnOk w s₀ W ws i (actBy (byPos SetRead SetFollow x) w s h (v ∷ os) m)
+  pub again-turn : (x : Pos) (o : Setter a f fs N (again T x) T x) → word W (W .pixel N) T x ≢ levelRef T → TurnOk w s₀ W ws i (actBy (byPos SetRead SetFollow x) w s h (v ∷ os) m)
   unfolding actBy setRead setFollow setReadWord setFollowWord cellAt setCellOf inner outer
   again-turn at-entry o y = again-word o y (spot-reads a (standing o))
   again-turn (at-node R C) o y = again-word o y (spot-reads a (standing o))

@@ -10,7 +10,7 @@ use lib.ListN.{length}
 use borrow.Author.Tests.{lt-ltb}
 use Rattle.words.specs.Digits.{depths}
 use Rattle.words.proofs.Choice.{pick-both, both-true}
-use Rattle.settings.specs.Sizes.{maxMoves}
+use Rattle.settings.specs.Sizes.{levelCount, maxMoves}
 use Rattle.settings.specs.declared.Settings.{Settings}
 use Rattle.areas.specs.Memory.{Memory, nextAt}
 use Rattle.record.specs.declared.Kind.the-variants.{SetLevel, SetClose, SetFollow}
@@ -24,9 +24,11 @@ use Rattle.rules.specs.Acts.{inner, outer, actBy}
 use Rattle.rules.specs.Asked.{moveLeft, setCloses, readsBy}
 use Rattle.trie.proofs.Tree.{inside-depth}
 use Rattle.trie.proofs.Stand.{at-node}
-use Rattle.trie.proofs.Search.{level, shut, Blank}
+use Rattle.trie.proofs.Search.{Phase, again, level, shut, Blank}
 use Rattle.trie.proofs.Move.{Frame, set, set-levels, set-shuts, frames-le, frame-depth}
 use Rattle.trie.proofs.MoveTurns.{shut-can}
+use Rattle.trie.proofs.Falls.{later}
+use Rattle.trie.proofs.MoveFalls.{set-level-falls}
 use Rattle.trie.proofs.Whole.{Worker, moving, owner}
 use Rattle.trie.proofs.Turns.{set-level-turn, set-shut-turn}
 use Rattle.rules.proofs.Matches.{Doing, moves, sets, shuts, more}
@@ -37,16 +39,17 @@ use Rattle.rules.proofs.Closing as closing
 use Rattle.rules.proofs.MoveRecords.{frames-length}
 use Rattle.rules.proofs.Setter.{Setter, standing, sets-by, acts-by, goes-again}
 
-module _ {w : ℕ} {s₀ s : Settings} {m : Memory} {W : WorldOf w s₀} {ws : ℕ → Worker} {i : ℕ} {h : Head} {v : Move} {os : List Move} {a : At w s₀ s m W ws i (record′ h (v ∷ os))} {f : Frame} {fs : List Frame} {N T R C : ℕ} (o : Setter a f fs N T (at-node R C)) (full : C ≡ s₀ .limit) (deep : suc (W .tree .depth T) < depths w) where
+module _ {w : ℕ} {s₀ s : Settings} {m : Memory} {W : WorldOf w s₀} {ws : ℕ → Worker} {i : ℕ} {h : Head} {v : Move} {os : List Move} {a : At w s₀ s m W ws i (record′ h (v ∷ os))} {f : Frame} {fs : List Frame} {N T R C : ℕ} {p : Phase} (o : Setter a f fs N p T (at-node R C)) (full : C ≡ s₀ .limit) (deep : suc (W .tree .depth T) < depths w) where
   pub level-asks : readsBy SetLevel w s h (v ∷ os) m ≡ true
   unfolding readsBy
   level-asks = taking.level-asks a (standing o) deep
 
-  pub level-turn : TurnOk w s₀ W ws i (actBy SetLevel w s h (v ∷ os) m)
+  pub level-turn : p ≡ level T (at-node R C) → TurnOk w s₀ W ws i (actBy SetLevel w s h (v ∷ os) m)
   unfolding actBy setLevel holdingLevel inner outer
-  level-turn =
+  level-turn z =
       taking.level-turn a (standing o) SetClose (v ∷ os) (λ G. moving f fs (set N (shut T (at-node R C) G))) (λ G. still-moving) shows
       (λ G free others had. set-level-turn (a .inv) i (acts-by o (sets-by o (set-levels (o .setting) full deep))) free others had)
+      (λ G free. rw (o .act-is, z) (set-level-falls (a .inv .structure) (levelCount w s₀) (o .frame) (o .around) free _ _ _ (owner i) (λ y. omega arith) (o .setting .path .pub-at) (o .setting .stand)))
     where
       shows : (G : ℕ) → Doing (holdingLevel SetClose (G + 1) h) (v ∷ os) (moving f fs (set N (shut T (at-node R C) G)))
       shows G = moves refl (more (o .on) (o .around-on)) (sets (shuts (o .level-is) (place-as refl refl (o .place)) (add-one G)))
@@ -73,10 +76,10 @@ module _ {w : ℕ} {s₀ s : Settings} {m : Memory} {W : WorldOf w s₀} {ws : �
         both-true (closing.close-asks a (standing o) hand)
         (pick-both (λ q. q ≡ true) (expected h (nextAt (m .nodes) (h .node))) (λ q. lt-ltb (length (v ∷ os)) (maxMoves w) one-inside) (λ q. refl))
 
-    pub close-turn : TurnOk w s₀ W ws i (actBy SetClose w s h (v ∷ os) m)
+    pub close-turn : p ≡ shut T (at-node R C) M → TurnOk w s₀ W ws i (actBy SetClose w s h (v ∷ os) m)
     unfolding actBy setClose inner outer
-    close-turn =
+    close-turn z =
         closing.close-turn a (standing o) hand (more (o .on) (o .around-on))
         (λ q. shut-can (a .inv .structure) {v = owner i} (λ y. omega arith) (o .setting) full deep blank q)
         (λ q. set-shut-turn (a .inv) i (acts-by o (sets-by o (set-shuts (o .setting) full deep blank))) hand q)
-        SetFollow (goes-again o)
+        SetFollow (goes-again o (rw z (later W (shut T (at-node R C) M) (again T (at-node R C)) refl refl (omega arith))))

@@ -7,6 +7,7 @@ use mathlib.Core.List.{List, _∷_}
 use native.Mathlib.Omega.{arith}
 use lib.ListN.{length}
 use Rattle.words.proofs.Choice.{pick-both, both-true}
+use Rattle.settings.specs.Sizes.{levelCount}
 use Rattle.settings.specs.declared.Settings.{Settings}
 use Rattle.areas.specs.Memory.{Memory, levelRef, nodeRef, pixelAt, cellAt, setCell, nodeTaken}
 use Rattle.record.specs.declared.Kind.the-variants.{SetPut, SetRead, SetAppend, SetFollow}
@@ -21,10 +22,12 @@ use Rattle.rules.specs.Asked.{setAppends, readsBy}
 use Rattle.trie.proofs.Digits.{digit}
 use Rattle.trie.proofs.World.{lastCell, Structure}
 use Rattle.trie.proofs.Stand.{Pos, at-entry, at-node, cellOf, passed}
-use Rattle.trie.proofs.Search.{word}
-use Rattle.trie.proofs.Move.{Frame, edge, Step, Moving, aims}
+use Rattle.trie.proofs.Search.{put, again, word}
+use Rattle.trie.proofs.Move.{Frame, edge, Step, Moving, set, aims}
 use Rattle.trie.proofs.MoveTurns.{withNodes, AfterMove, emptied, next-one, put-can, put-moved}
-use Rattle.trie.proofs.MoveOne.{moveOne, move-grows}
+use Rattle.trie.proofs.MoveOne.{moveOne, CanMove, move-grows}
+use Rattle.trie.proofs.Falls.{Falls, later}
+use Rattle.trie.proofs.MoveFalls.{put-falls, last-falls}
 use Rattle.trie.proofs.Turns.{put-step}
 use Rattle.trie.proofs.Whole.{Worker, is-moving, moving, owner}
 use Rattle.rules.proofs.Dims.{dims}
@@ -37,14 +40,14 @@ use Rattle.rules.proofs.MoveRecords.{framed-count, last-count, framed-f
 use Rattle.rules.proofs.MoveOn.{Next, next-aim, next-end, last-aims, last-ends, moves-on}
 use Rattle.rules.proofs.Setter.{Setter, node-placed, node-last, standing, puts-ok, goes-again}
 
-module _ {w : ℕ} {s₀ s : Settings} {m : Memory} {W : WorldOf w s₀} {ws : ℕ → Worker} {i : ℕ} {h : Head} {v : Move} {os : List Move} {a : At w s₀ s m W ws i (record′ h (v ∷ os))} {f : Frame} {fs : List Frame} {N T : ℕ} where
-  pub put-asks : (x : Pos) → Setter a f fs N T x → readsBy (byPos SetPut SetAppend x) w s h (v ∷ os) m ≡ true
+module _ {w : ℕ} {s₀ s : Settings} {m : Memory} {W : WorldOf w s₀} {ws : ℕ → Worker} {i : ℕ} {h : Head} {v : Move} {os : List Move} {a : At w s₀ s m W ws i (record′ h (v ∷ os))} {f : Frame} {fs : List Frame} {N M T : ℕ} where
+  pub put-asks : (x : Pos) → Setter a f fs N (put T x M) T x → readsBy (byPos SetPut SetAppend x) w s h (v ∷ os) m ≡ true
   unfolding readsBy setAppends inner
   put-asks at-entry o = puts-ok o
   put-asks (at-node R C) o = both-true (stands-ok a (standing o)) (ap (nodeTaken s) (node-last o) ∙ node-taken (a .table) N (not-free (node-placed o)))
 
   -- the exchange is done
-  put-done : {x : Pos} (o : Setter a f fs N T x) → passed x < s₀ .limit → word W (W .pixel N) T x ≡ levelRef T → TurnOk w s₀ W ws i (setLast s h (forget v) os (setCell w m (spot w h (pixelAt (m .nodes) (lastNode v)) (m .levels) x) (nodeRef (lastNode v))))
+  put-done : {x : Pos} (o : Setter a f fs N (put T x M) T x) → passed x < s₀ .limit → word W (W .pixel N) T x ≡ levelRef T → TurnOk w s₀ W ws i (setLast s h (forget v) os (setCell w m (spot w h (pixelAt (m .nodes) (lastNode v)) (m .levels) x) (nodeRef (lastNode v))))
   put-done {x} o y e = by (put-moved S (a .inv .partition) (o .pre) (o .frame) (o .setting) y e (o .around))
     where
       S : Structure W
@@ -52,6 +55,9 @@ module _ {w : ℕ} {s₀ s : Settings} {m : Memory} {W : WorldOf w s₀} {ws : �
 
       d : ℕ
       d = digit (dims w (s₀ .limit)) (W .pixel N) (W .tree .depth T)
+
+      can : CanMove W (f .home) (edge W f) (o .pre) N T d
+      can = put-can S (o .pre) (o .frame) (o .setting) y e
 
       W′ : WorldOf w s₀
       W′ = moveOne W (f .home) (edge W f) (o .pre) N T d
@@ -68,25 +74,25 @@ module _ {w : ℕ} {s₀ s : Settings} {m : Memory} {W : WorldOf w s₀} {ws : �
       less : Framed (forget v) (withNodes f (o .pre))
       less = framed-forget (o .on) (o .pre) N (o .nodes-are)
 
-      on-to : {now : Step} {h′ : Head} → Moving W′ (owner i) (ws i .key) (withNodes f (o .pre)) fs now → Next h h′ (withNodes f (o .pre)) now → TurnOk w s₀ W ws i (going s h′ (forget v ∷ os) m′)
-      on-to {now} k z =
-          moves-on a W′ (move-grows S (put-can S (o .pre) (o .frame) (o .setting) y e)) refl table (put-step (a .inv) i (o .pre) (o .frame) (o .setting) y e (moving (withNodes f (o .pre)) fs now) (is-moving (o .small) (o .since-le) k)) z (more less (o .around-on))
+      on-to : {now : Step} {h′ : Head} → Falls (levelCount w s₀) W W′ (moving f fs (set N (put T x M))) (moving (withNodes f (o .pre)) fs now) → Moving W′ (owner i) (ws i .key) (withNodes f (o .pre)) fs now → Next h h′ (withNodes f (o .pre)) now → TurnOk w s₀ W ws i (going s h′ (forget v ∷ os) m′)
+      on-to {now} l k z =
+          moves-on a W′ (move-grows S can) refl table (put-step (a .inv) i (o .pre) (o .frame) (o .setting) y e (moving (withNodes f (o .pre)) fs now) (is-moving (o .small) (o .since-le) k)) (rw (o .act-is) l) z (more less (o .around-on))
 
       by : AfterMove W′ (owner i) (ws i .key) f fs (o .pre) → TurnOk w s₀ W ws i (setLast s h (forget v) os m′)
-      by (emptied z k) = rw (last-ends s h (forget v) os m′ (sym (framed-count less) ∙ ap length z)) (on-to k next-end)
+      by (emptied z k) = rw (last-ends s h (forget v) os m′ (sym (framed-count less) ∙ ap length z)) (on-to (last-falls S (levelCount w s₀) (o .frame) (o .around) (o .pre) can) k next-end)
       by (next-one N′ (aims pre′ k n p j c)) =
           let y = last-count less pre′ N′ n in
-          rw (last-aims s h (forget v) os m′ (λ q. omega arith)) (on-to (aims pre′ k n p j c) (next-aim (forget v .child) (less .child-is)))
+          rw (last-aims s h (forget v) os m′ (λ q. omega arith)) (on-to (put-falls S (levelCount w s₀) (o .frame) (o .around) (o .pre) (o .nodes-are) can) (aims pre′ k n p j c) (next-aim (forget v .child) (less .child-is)))
 
   -- done or failed
-  put-either : {x : Pos} (o : Setter a f fs N T x) → passed x < s₀ .limit → TurnOk w s₀ W ws i (setNode w (byPos SetRead SetFollow x) s h v os (spot w h (pixelAt (m .nodes) (lastNode v)) (m .levels) x) m)
+  put-either : {x : Pos} (o : Setter a f fs N (put T x M) T x) → passed x < s₀ .limit → TurnOk w s₀ W ws i (setNode w (byPos SetRead SetFollow x) s h v os (spot w h (pixelAt (m .nodes) (lastNode v)) (m .levels) x) m)
   unfolding setNode
   put-either {x} o y =
       pick-both (TurnOk w s₀ W ws i) (expected h (cellAt w m (spot w h (pixelAt (m .nodes) (lastNode v)) (m .levels) x)))
       (λ e. put-done o y (here-reads a (standing o) e))
-      (λ e. goes-again o (other-reads a (standing o) e))
+      (λ e. goes-again o (later W (put T x M) (again T x) refl refl (omega arith)) (other-reads a (standing o) e))
 
-  pub put-turn : (x : Pos) (o : Setter a f fs N T x) → passed x < s₀ .limit → TurnOk w s₀ W ws i (actBy (byPos SetPut SetAppend x) w s h (v ∷ os) m)
+  pub put-turn : (x : Pos) (o : Setter a f fs N (put T x M) T x) → passed x < s₀ .limit → TurnOk w s₀ W ws i (actBy (byPos SetPut SetAppend x) w s h (v ∷ os) m)
   unfolding actBy setPut setAppend setCellOf inner outer
   put-turn at-entry o y = put-either o y
   put-turn (at-node R C) o y = put-either o y

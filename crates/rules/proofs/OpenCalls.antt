@@ -40,9 +40,9 @@ use Rattle.rules.proofs.Carried.{opening-done, start-done}
 use Rattle.rules.proofs.OneTurn.{done-number, nine-is-full, turn-refused, refuses-turn}
 use Rattle.rules.proofs.Refused.{refuses-opening, refuses-start}
 use Rattle.rules.proofs.Along.{Along}
-use Rattle.rules.proofs.Opened.{along-opened}
+use Rattle.rules.proofs.Opened.{opened-record, along-opened}
 use Rattle.rules.proofs.Sequence.{event-along}
-use Rattle.rules.proofs.LastAnswers.{own-head, other-head, idle-tells, busy-tells, alone, full-formed, TurnYes, turn-yes, place-room, formed, sequence-told, opened-record}
+use Rattle.rules.proofs.LastAnswers.{own-head, other-head, idle-tells, busy-tells, alone, full-formed, TurnYes, turn-yes, place-room, formed, sequence-told}
 
 -- a turn keeps the pixel, by kind
 module _ (w : ℕ) (s : Settings) (h : Head) (m : Memory) where

@@ -18,7 +18,7 @@ use Rattle.record.proofs.Records.{idle, zero-words}
 use Rattle.record.proofs.Apart.{place-next, room as word-room}
 use native.Mathlib.Nat.{zero-add}
 use Rattle.rules.specs.Opening.{openedSettings, openedAreas}
-use Rattle.rules.specs.Operations.{memoryOf}
+use Rattle.rules.specs.Operations.{recordOf, memoryOf, question2Of}
 use Rattle.rules.specs.Lists.{state}
 use Rattle.trie.proofs.Digits.{Dims}
 use Rattle.trie.proofs.Update.{Cell, ent, nxt, upd-same, upd-other}
@@ -84,6 +84,11 @@ zero-record w l workers i h r =
     let b = word-room w in
     let e : workerWords w * i + k < workerWords w * workers = omega arith in
     rw zero-add at (fill-in (workerWords w * workers) l 0 0 (workerWords w * i + k) e (omega arith)))
+
+-- after an opening a record is the one of zeros
+pub opened-record : (w : ℕ) (s : Settings) (a : Areas) (i : ℕ) → i < s .workers → question2Of w s a ≡ true → recordOf w (openedAreas w s a) i ≡ idle
+unfolding openedAreas
+opened-record w s a i h q = zero-record w (a .workers) (s .workers) i h (room w s (length (a .nodes)) (length (a .levels)) (length (a .workers)) q .workers)
 
 module _ {w : ℕ} (width : Width w) (s : Settings) (a : Areas) (y : question1 s ≡ true) (r : question2 w s (length (a .nodes)) (length (a .levels)) (length (a .workers)) ≡ true) where
   -- the world: what the words held before stays in its functions wherever the opening did not write

@@ -25,13 +25,8 @@ use Rattle.rules.proofs.Questions.{Without, gives-first-no, never-first
 use Rattle.rules.proofs.Visits.{NoSix, six-in}
 use Rattle.rules.proofs.ManyTurns.{list-carried, refuses-list}
 use Rattle.rules.proofs.Refused.{refuses-opening}
+use Rattle.rules.proofs.Sequence.{after-append}
 use Rattle.rules.proofs.Theorem.{demand3}
-
--- the state after the events of two lists
-after-append : (w : ℕ) (es fs : List Event) (x : State) → stateAfter w (es ++ fs) x ≡ stateAfter w fs (stateAfter w es x)
-unfolding stateAfter
-after-append w [] fs x = refl
-after-append w (e ∷ es) fs x = after-append w es fs (after (happens w e x))
 
 -- the turns at the entries reached leave the state after these
 after-visits : (w : ℕ) (l : List ℕ) (n : ℕ) (x : State) → stateAfter w (turnsAt (visits w l n x)) x ≡ endState w x (visits w l n x)

@@ -1,6 +1,6 @@
 -- Read and Follow: question 6 holds, and what they do with the word that they met is what the theory makes of it.
 -- Relies on a worker that searches, on what it does where it reads again, and on the theory's next clause of a reading.
-use Prim.Native.Nat.{ℕ}
+use Prim.Native.Nat.{ℕ, _<_}
 use mathlib.Core.Path.{_≡_, refl, sym, ap, subst, _∙_}
 use mathlib.Core.Logic.{_≢_}
 use mathlib.Core.Bool.{true}
@@ -26,12 +26,14 @@ use Rattle.trie.proofs.Evolve.{grows-refl}
 use Rattle.trie.proofs.Stand as theory
 use Rattle.trie.proofs.Stand.{Pos, at-entry, at-node, passed, Met, met-node, met-level}
 use Rattle.trie.proofs.Search.{again, peek, Local, reads, word, Next, found, onward, down, reads-next}
+use Rattle.trie.proofs.Measure.{phase}
+use Rattle.trie.proofs.Falls.{onward-less, down-less}
 use Rattle.trie.proofs.Levels.{levels-stay}
 use Rattle.trie.proofs.Whole.{idle, Worker, is-idle, owner, stay-step}
 use Rattle.trie.proofs.Turns.{does}
 use Rattle.rules.proofs.Dims.{dims}
 use Rattle.rules.proofs.Matches.{searchKind, entry, node, peeks, rests}
-use Rattle.rules.proofs.Invariant.{WorldOf, At, TurnOk, ends-found}
+use Rattle.rules.proofs.Invariant.{WorldOf, kept, At, TurnOk, ends-found}
 use Rattle.rules.proofs.Reading.{not-free, node-ref, level-ref, named-node, named-level, level-taken, pixel-reads, pixel-fits}
 use Rattle.rules.proofs.Standing.{spot, picks-ok, stands-ok, spot-reads, leads-on}
 use Rattle.rules.proofs.Turned.{call-level, call-node}
@@ -74,17 +76,19 @@ module _ {w : ℕ} {s₀ s : Settings} {m : Memory} {W : WorldOf w s₀} {ws : �
         levels = levels-stay (a .levels) i (a .here) c (grows-refl W) refl;
         matches = record { pixel-is = a .matches .pixel-is; node-is = a .matches .node-is; level-is = a .matches .level-is; doing = rests refl refl (omega arith) };
         rowing = ends-found p e refl refl;
+        falls = λ y. absurd (y refl);
+        held = kept (a .table .nodes-fresh) refl;
       }
 
   -- another node
-  goes-onward : (R c : ℕ) → c ≡ theory.more (dims w (s₀ .limit)) (passed x) → Local W (owner i) (ws i .key) (ws i .since) (peek H (at-node R (theory.more (dims w (s₀ .limit)) (passed x)))) → TurnOk w s₀ W ws i (going s (toNode Tail R c (r .head)) [] m)
+  goes-onward : (R c : ℕ) → phase W (peek H (at-node R (theory.more (dims w (s₀ .limit)) (passed x)))) < phase W (again H x) → c ≡ theory.more (dims w (s₀ .limit)) (passed x) → Local W (owner i) (ws i .key) (ws i .since) (peek H (at-node R (theory.more (dims w (s₀ .limit)) (passed x)))) → TurnOk w s₀ W ws i (going s (toNode Tail R c (r .head)) [] m)
   unfolding toNode
-  goes-onward R c e l = stays o {q = peek H (at-node R (theory.more (dims w (s₀ .limit)) (passed x)))} refl (call-node Tail R c (r .head)) (peeks (o .level-is) (node refl e)) l
+  goes-onward R c n e l = stays o {q = peek H (at-node R (theory.more (dims w (s₀ .limit)) (passed x)))} n refl (call-node Tail R c (r .head)) (peeks (o .level-is) (node refl e)) l
 
   -- a level
-  goes-down : (g c : ℕ) → g ≡ c → Local W (owner i) (ws i .key) (ws i .since) (peek c at-entry) → TurnOk w s₀ W ws i (going s (toLevel Look g (r .head)) [] m)
+  goes-down : (g c : ℕ) → W .tree .depth H < W .tree .depth c → g ≡ c → Local W (owner i) (ws i .key) (ws i .since) (peek c at-entry) → TurnOk w s₀ W ws i (going s (toLevel Look g (r .head)) [] m)
   unfolding toLevel
-  goes-down g c e l = stays o {q = peek c at-entry} refl (call-level Look g (r .head)) (peeks e entry) l
+  goes-down g c n e l = stays o {q = peek c at-entry} (down-less (a .inv .structure) x (o .search .path .pub-at) n) refl (call-level Look g (r .head)) (peeks e entry) l
 
   -- what the theory makes of the word
   met-ok : Local W (owner i) (ws i .key) (ws i .since) (again H x) → TurnOk w s₀ W ws i (spec.met s (r .head) (countFrom s (r .head) x) (goesTo w (r .head) (m .levels) x (named (cellAt w m (spot w (r .head) (r .head .pixel) (m .levels) x)))) (cellAt w m (spot w (r .head) (r .head .pixel) (m .levels) x)) m)
@@ -108,11 +112,11 @@ module _ {w : ℕ} {s₀ s : Settings} {m : Memory} {W : WorldOf w s₀} {ws : �
       by (onward R q p e g) =
           subst (TurnOk w s₀ W ws i)
           (sym (ap does-with (spot-reads a (standing o) ∙ q) ∙ met-a-node s h _ _ R m ∙ pick-false _ _ _ (ne-eqb _ _ (λ y. e (sym (pixel-of R p) ∙ y ∙ a .matches .pixel-is)))))
-          (goes-onward R _ (count-from a (standing o)) g)
-      by (down t c q p g e j) =
+          (goes-onward R _ (onward-less (a .inv .structure) (theory.more (dims w (s₀ .limit)) (passed x)) (o .search .stand) q p) (count-from a (standing o)) g)
+      by (down t c q p g e n j) =
           subst (TurnOk w s₀ W ws i)
           (sym (ap does-with (spot-reads a (standing o) ∙ q) ∙ met-a-level s h _ _ t m))
-          (goes-down _ c (ap (goesTo w h (m .levels) x) (named-level t) ∙ goes-to-is a (standing o) p g e) j)
+          (goes-down _ c n (ap (goesTo w h (m .levels) x) (named-level t) ∙ goes-to-is a (standing o) p g e) j)
 
 module _ {w : ℕ} {s₀ s : Settings} {m : Memory} {W : WorldOf w s₀} {ws : ℕ → Worker} {i : ℕ} {r : Record} {a : At w s₀ s m W ws i r} {H : ℕ} where
   pub again-asks : (x : Pos) → Searcher a (again H x) H x → Local W (owner i) (ws i .key) (ws i .since) (again H x) → asked.readsBy (searchKind (again H x)) w s (r .head) (r .moves) m ≡ true

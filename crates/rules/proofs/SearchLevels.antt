@@ -6,6 +6,7 @@ use mathlib.Core.Bool.{true}
 use mathlib.Core.List.{[]}
 use native.Mathlib.Numerals.{add-one}
 use native.Mathlib.Omega.{arith}
+use Rattle.settings.specs.Sizes.{levelCount}
 use Rattle.settings.specs.declared.Settings.{Settings}
 use Rattle.areas.specs.Memory.{Memory}
 use Rattle.record.specs.declared.Kind.the-variants.{Close, Follow}
@@ -15,7 +16,8 @@ use Rattle.rules.specs.Searching as spec
 use Rattle.rules.specs.Acts.{actBy}
 use Rattle.rules.specs.Asked.{readsBy}
 use Rattle.trie.proofs.Stand.{at-node}
-use Rattle.trie.proofs.Search.{level, shut, Local, levels, shuts, shut-done}
+use Rattle.trie.proofs.Search.{again, level, shut, Local, levels, shuts, shut-done}
+use Rattle.trie.proofs.Falls.{later, level-falls}
 use Rattle.trie.proofs.Whole.{searching, Worker, is-searching, owner}
 use Rattle.trie.proofs.Turns as turns
 use Rattle.rules.proofs.Matches as shown
@@ -36,6 +38,7 @@ module _ {w : ℕ} {s₀ s : Settings} {m : Memory} {W : WorldOf w s₀} {ws : �
   level-turn l =
       taking.level-turn a (standing o) Close [] (λ G. searching (shut H (at-node R C) G)) (λ G. still-searching) shows
       (λ G free others had. turns.level-turn (a .inv) i (is-searching (o .small) (o .since-le) l) free others had)
+      (λ G free. rw (o .act-is) (level-falls (a .inv .structure) (levelCount w s₀) free _ _ _ (owner i) (λ y. omega arith) (o .search .path .pub-at) (o .search .stand)))
     where
       shows : (G : ℕ) → Doing (holdingLevel Close (G + 1) (r .head)) [] (searching (shut H (at-node R C) G))
       shows G = searches refl refl (shown.shuts (o .level-is) (place-as refl refl (o .place)) (add-one G))
@@ -58,4 +61,4 @@ module _ {w : ℕ} {s₀ s : Settings} {m : Memory} {W : WorldOf w s₀} {ws : �
       closing.close-turn a (standing o) in-hand none
       (λ q. shut-done (a .inv .structure) (a .inv .partition) (λ y. omega arith) l q)
       (λ q. turns.shut-turn (a .inv) i (is-searching (o .small) (o .since-le) l) in-hand q)
-      Follow (goes-again o)
+      Follow (goes-again o (later W (shut H (at-node R C) G) (again H (at-node R C)) refl refl (omega arith)))

@@ -21,13 +21,14 @@ use Rattle.trie.proofs.Fresh.{fresh-keep}
 use Rattle.trie.proofs.Place.{place, place-grows}
 use Rattle.trie.proofs.World.{lastCell}
 use Rattle.trie.proofs.Stand.{Pos, at-entry, at-node, cellOf}
-use Rattle.trie.proofs.Search.{put, Local, puts, word, put-done}
+use Rattle.trie.proofs.Search.{put, again, Local, puts, word, put-done}
+use Rattle.trie.proofs.Falls.{later}
 use Rattle.trie.proofs.Levels.{levels-stay}
 use Rattle.trie.proofs.Whole.{idle, Worker, is-searching, owner}
 use Rattle.trie.proofs.Turns as turns
 use Rattle.rules.proofs.Dims.{dims}
 use Rattle.rules.proofs.Matches.{byPos, searchKind, rests}
-use Rattle.rules.proofs.Invariant.{WorldOf, At, TurnOk, ends-new}
+use Rattle.rules.proofs.Invariant.{WorldOf, gave, At, TurnOk, ends-new}
 use Rattle.rules.proofs.Holding.{node-owned, node-hand-ok}
 use Rattle.rules.proofs.Standing.{spot, picks-ok, stands-ok, spot-cell, spot-taken, here-reads, other-reads, ends-here}
 use Rattle.rules.proofs.Turned.{table-with, written}
@@ -61,6 +62,8 @@ module _ {w : ℕ} {s₀ s : Settings} {m : Memory} {W : WorldOf w s₀} {ws : �
         levels = levels-stay (a .levels) i (a .here) c E refl;
         matches = record { pixel-is = a .matches .pixel-is; node-is = refl; level-is = a .matches .level-is; doing = rests refl refl (omega arith) };
         rowing = ends-new can (pixel-of l) refl refl;
+        falls = λ y. absurd (y refl);
+        held = gave (a .table .nodes-fresh) hand refl;
       }
     where
       pixel-of : Local W (owner i) (ws i .key) (ws i .since) (put H x n) → W .pixel n ≡ ws i .key
@@ -72,7 +75,7 @@ module _ {w : ℕ} {s₀ s : Settings} {m : Memory} {W : WorldOf w s₀} {ws : �
       let h : r .head .«held_node» - 1 ≡ n = omega (arith, a .matches .node-is, in-hand o l) in
       pick-both (TurnOk w s₀ W ws i) (expected (r .head) (cellAt w m (spot w (r .head) (r .head .pixel) (m .levels) x)))
       (λ e. subst (λ k. TurnOk w s₀ W ws i (step (New k) s (ended 1 k 0 (r .head)) [] (setCell w m (spot w (r .head) (r .head .pixel) (m .levels) x) (nodeRef k)))) (sym h) (put-new o l (here-reads a (standing o) e)))
-      (λ e. goes-again o (other-reads a (standing o) e))
+      (λ e. goes-again o (later W (put H x n) (again H x) refl refl (omega arith)) (other-reads a (standing o) e))
 
   pub put-turn : (x : Pos) (o : Searcher a (put H x n) H x) → Local W (owner i) (ws i .key) (ws i .since) (put H x n) → TurnOk w s₀ W ws i (actBy (searchKind (put H x n)) w s (r .head) (r .moves) m)
   unfolding actBy spec.put spec.append spec.entryOf

@@ -10,10 +10,12 @@ use native.Mathlib.Omega.{arith}
 use borrow.Author.Tests.{eqb-true, eqb-false, ltb-true, eq-eqb}
 use Rattle.words.specs.Choice.{pick}
 use Rattle.words.proofs.Choice.{pick-both, pick-true, both-true}
+use Rattle.settings.specs.Sizes.{levelCount}
 use Rattle.settings.specs.declared.Settings.{Settings}
 use Rattle.areas.specs.Memory.{Memory, levelRef}
 use Rattle.record.specs.declared.Kind.the-variants.{Put, Append}
 use Rattle.record.specs.Kinds.{kindNo}
+use Rattle.record.specs.declared.Answer.the-variants.{Open}
 use Rattle.record.specs.Layout.{Record}
 use Rattle.rules.specs.Heads.{holdingNode}
 use Rattle.rules.specs.Steps.{tookNode, withNode, takeNode}
@@ -25,12 +27,13 @@ use Rattle.trie.proofs.Fresh.{Fresh, owned-taken, fresh-next, fresh-keep}
 use Rattle.trie.proofs.TakeNode as theory
 use Rattle.trie.proofs.Stand.{Pos, at-entry, at-node}
 use Rattle.trie.proofs.Search.{fetch, put, Local}
+use Rattle.trie.proofs.Falls.{fetch-falls}
 use Rattle.trie.proofs.Levels.{levels-stay}
 use Rattle.trie.proofs.Whole.{searching, Worker, is-searching, owner}
 use Rattle.trie.proofs.Turns as turns
 use Rattle.rules.proofs.Words.{shows-node}
 use Rattle.rules.proofs.Matches.{byPos, searchKind, puts, searches}
-use Rattle.rules.proofs.Invariant.{WorldOf, SameSizes, At, TurnOk, goes}
+use Rattle.rules.proofs.Invariant.{WorldOf, SameSizes, Held, keeps, took, At, TurnOk, goes}
 use Rattle.rules.proofs.Holding.{node-owner, node-owned, spare-node-ok}
 use Rattle.rules.proofs.Standing.{level-ok}
 use Rattle.rules.proofs.Turned.{still-searching, place-as}
@@ -53,9 +56,9 @@ module _ {w : ℕ} {s₀ s : Settings} {m : Memory} {W : WorldOf w s₀} {ws : �
   fetch-asks (at-node R C) o = both-true (level-ok a (standing o)) (spare-node-ok a)
 
   -- node n is written and in hand; the settings s′ count it
-  with-node : {x : Pos} (o : Searcher a (fetch H x) H x) → Local W (owner i) (ws i .key) (ws i .since) (fetch H x) → (s′ : Settings) (n : ℕ) → SameSizes s₀ s′ → s′ .«levels_taken» ≡ s .«levels_taken» → Fresh (upd (W .nodeOwner) n (owner i)) (s′ .«nodes_taken») → s′ .«nodes_taken» ≤ s₀ .nodes → W .nodeOwner n ≢ 0 → ((j : ℕ) → j ≢ i → W .nodeOwner n ≢ owner j) → (ws i .node ≡ 0) ⊎ (ws i .node ≡ suc n) → TurnOk w s₀ W ws i (withNode (byPos Put Append x) s′ (r .head) n m)
+  with-node : {x : Pos} (o : Searcher a (fetch H x) H x) → Local W (owner i) (ws i .key) (ws i .since) (fetch H x) → (s′ : Settings) (n : ℕ) → SameSizes s₀ s′ → s′ .«levels_taken» ≡ s .«levels_taken» → Fresh (upd (W .nodeOwner) n (owner i)) (s′ .«nodes_taken») → s′ .«nodes_taken» ≤ s₀ .nodes → W .nodeOwner n ≢ 0 → ((j : ℕ) → j ≢ i → W .nodeOwner n ≢ owner j) → (ws i .node ≡ 0) ⊎ (ws i .node ≡ suc n) → Held W (ws i) (suc n) (s′ .«nodes_taken») Open → TurnOk w s₀ W ws i (withNode (byPos Put Append x) s′ (r .head) n m)
   unfolding withNode holdingNode
-  with-node {x} o l s′ n same e fresh le free others had =
+  with-node {x} o l s′ n same e fresh le free others had held =
       let K = ws i .key in
       let c = turns.does (turns.withNode (ws i) (suc n)) (searching (put H x n)) in
       let taken : upd (W .nodeOwner) n (owner i) n ≢ 1 = λ y. let z = upd-same (W .nodeOwner) n (owner i) in omega arith in
@@ -78,6 +81,8 @@ module _ {w : ℕ} {s₀ s : Settings} {m : Memory} {W : WorldOf w s₀} {ws : �
         levels = rw e (levels-stay (a .levels) i (a .here) c E refl);
         matches = record { pixel-is = a .matches .pixel-is; node-is = add-one n; level-is = a .matches .level-is; doing = searches refl refl (puts (o .level-is) (place-as refl refl (o .place))) };
         rowing = goes E refl still-searching refl refl;
+        falls = λ y. rw (o .act-is) (fetch-falls (a .inv .structure) (levelCount w s₀) free (λ y. omega arith) l);
+        held = held;
       }
 
   -- the next number, which question 9 has left
@@ -90,6 +95,7 @@ module _ {w : ℕ} {s₀ s : Settings} {m : Memory} {W : WorldOf w s₀} {ws : �
       with-node o l (tookNode s) n (record { workers-is = a .table .same .workers-is; limit-is = a .table .same .limit-is; nodes-is = all }) refl
       (rw add-one (fresh-next (a .table .nodes-fresh) (owner i) (λ y. omega arith)))
       (omega arith) (λ y. omega arith) (λ j d y. omega arith) (inl (sym (a .matches .node-is) ∙ none))
+      (took (o .act-is) (sym (a .matches .node-is) ∙ none) (a .table .nodes-fresh) refl (add-one n))
 
   -- the spare node
   old-node : {x : Pos} (o : Searcher a (fetch H x) H x) → Local W (owner i) (ws i .key) (ws i .since) (fetch H x) → r .head .«held_node» ≢ 0 → TurnOk w s₀ W ws i (withNode (byPos Put Append x) s (r .head) (r .head .«held_node» - 1) m)
@@ -98,7 +104,7 @@ module _ {w : ℕ} {s₀ s : Settings} {m : Memory} {W : WorldOf w s₀} {ws : �
       let is : ws i .node ≡ suc n = omega (arith, a .matches .node-is) in
       let mine = node-owner a is in
       with-node o l s n (a .table .same) refl (fresh-keep (a .table .nodes-fresh) n (owner i) (node-owned a is) (λ y. omega arith)) (a .table .nodes-le)
-      (λ y. omega arith) (λ j d y. d (omega arith)) (inr is)
+      (λ y. omega arith) (λ j d y. d (omega arith)) (inr is) (keeps (a .table .nodes-fresh) (sym is))
 
   taken-node : {x : Pos} (o : Searcher a (fetch H x) H x) → Local W (owner i) (ws i .key) (ws i .since) (fetch H x) → question9 s r ≡ true → TurnOk w s₀ W ws i (takeNode (byPos Put Append x) s (r .head) m)
   unfolding takeNode

@@ -30,32 +30,32 @@ module _ {w : ℕ} {s₀ s : Settings} {m : Memory} {W : WorldOf w s₀} {ws : �
     asks : readsBy (r .head .kind) w s (r .head) (r .moves) m ≡ true
     turn : question9 s r ≡ true → TurnOk w s₀ W ws i (act w s r m)
 
-  searcher : (p : Phase) {H : ℕ} {x : Pos} → r .head .kind ≡ searchKind p → r .head .level ≡ H → Place (r .head) x → ws i .key < base w ^ depths w → ws i .since ≤ length (W .book) → Searching W (ws i .key) H x → Searcher a p H x
-  searcher p k g d small b c = record { kind-is = k; level-is = g; place = d; small = small; since-le = b; search = c }
+  searcher : (p : Phase) {H : ℕ} {x : Pos} → ws i .act ≡ searching p → r .head .kind ≡ searchKind p → r .head .level ≡ H → Place (r .head) x → ws i .key < base w ^ depths w → ws i .since ≤ length (W .book) → Searching W (ws i .key) H x → Searcher a p H x
+  searcher p e k g d small b c = record { kind-is = k; level-is = g; place = d; small = small; since-le = b; search = c; act-is = e }
 
   -- by the phase, of which the record has the kind and the numbers, and the theory the clause
-  by-phase : (p : Phase) → Doing (r .head) (r .moves) (searching p) → ActOk W (owner i) (ws i .key) (ws i .since) (searching p) → Turns
-  by-phase (peek H x) (searches k n (peeks g d)) (is-searching small b (clause.peeks c)) =
-      let o = searcher (peek H x) k g d small b c in
+  by-phase : (p : Phase) → ws i .act ≡ searching p → Doing (r .head) (r .moves) (searching p) → ActOk W (owner i) (ws i .key) (ws i .since) (searching p) → Turns
+  by-phase (peek H x) e (searches k n (peeks g d)) (is-searching small b (clause.peeks c)) =
+      let o = searcher (peek H x) e k g d small b c in
       record { asks = asks-by a k (peek-asks x o); turn = λ q. turn-by a k (peek-turn x o) }
-  by-phase (fetch H x) (searches k n (fetches g d)) (is-searching small b (clause.fetches c l u)) =
-      let o = searcher (fetch H x) k g d small b c in
+  by-phase (fetch H x) e (searches k n (fetches g d)) (is-searching small b (clause.fetches c l u)) =
+      let o = searcher (fetch H x) e k g d small b c in
       record { asks = asks-by a k (fetch-asks x o); turn = λ q. turn-by a k (fetch-turn x o (clause.fetches c l u) q) }
-  by-phase (put H x j) (searches k n (puts g d)) (is-searching small b (clause.puts c l v p t)) =
-      let o = searcher (put H x j) k g d small b c in
+  by-phase (put H x j) e (searches k n (puts g d)) (is-searching small b (clause.puts c l v p t)) =
+      let o = searcher (put H x j) e k g d small b c in
       record { asks = asks-by a k (put-asks x o (clause.puts c l v p t)); turn = λ q. turn-by a k (put-turn x o (clause.puts c l v p t)) }
-  by-phase (again H x) (searches k n (agains g d)) (is-searching small b (clause.reads c y)) =
-      let o = searcher (again H x) k g d small b c in
+  by-phase (again H x) e (searches k n (agains g d)) (is-searching small b (clause.reads c y)) =
+      let o = searcher (again H x) e k g d small b c in
       record { asks = asks-by a k (again-asks x o (clause.reads c y)); turn = λ q. turn-by a k (again-turn x o (clause.reads c y)) }
-  by-phase (level H x) (searches k n (levels g d)) (is-searching small b (clause.levels c l y)) =
-      let o = searcher (level H x) k g d small b c in
+  by-phase (level H x) e (searches k n (levels g d)) (is-searching small b (clause.levels c l y)) =
+      let o = searcher (level H x) e k g d small b c in
       record { asks = asks-by a k (level-asks o (clause.levels c l y)); turn = λ q. turn-by a k (level-turn o (clause.levels c l y)) }
-  by-phase (shut H x G) (searches k n (shuts g d f)) (is-searching small b (clause.shuts c l y t)) =
-      let o = searcher (shut H x G) k g d small b c in
+  by-phase (shut H x G) e (searches k n (shuts g d f)) (is-searching small b (clause.shuts c l y t)) =
+      let o = searcher (shut H x G) e k g d small b c in
       record { asks = asks-by a k (shut-asks o (clause.shuts c l y t)); turn = λ q. turn-by a k (shut-turn o (clause.shuts c l y t)) }
 
   turns : (p : Phase) → ws i .act ≡ searching p → Turns
-  turns p e = by-phase p (rw e at (a .matches .doing)) (rw e at (a .inv .each i .acts))
+  turns p e = by-phase p e (rw e at (a .matches .doing)) (rw e at (a .inv .each i .acts))
 
   pub search-asks : (p : Phase) → ws i .act ≡ searching p → readsBy (r .head .kind) w s (r .head) (r .moves) m ≡ true
   search-asks p e = turns p e .asks

@@ -61,6 +61,12 @@ module _ {w : ℕ} {s₀ : Settings} {x : State} {k : ℕ} {os : List Opened} {c
         left = λ n z. level-left w (x .settings) (recordOf w (x .areas) i .head) (x .areas .levels) z (level-reads _ w (x .settings) (recordOf w (x .areas) i) (memoryOf (x .areas)) n (both-right _ _ (asks-ok (at (a .fine) i h))));
       }
 
+-- the state after the events of two lists
+pub after-append : (w : ℕ) (es fs : List Event) (x : State) → stateAfter w (es ++ fs) x ≡ stateAfter w fs (stateAfter w es x)
+unfolding stateAfter
+after-append w [] fs x = refl
+after-append w (e ∷ es) fs x = after-append w es fs (after (happens w e x))
+
 -- the events of a sequence
 pub record AtEnd (w : ℕ) (s₀ : Settings) (x : State) (cs : List Call) : Type 0 where
   pub events : ℕ

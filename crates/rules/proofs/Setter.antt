@@ -8,6 +8,7 @@ use mathlib.Core.List.{List, [], _∷_, _++_}
 use lib.ListN.{length}
 use Rattle.words.specs.Digits.{base, depths}
 use Rattle.words.proofs.Choice.{both-true}
+use Rattle.settings.specs.Sizes.{levelCount}
 use Rattle.settings.specs.declared.Settings.{Settings}
 use Rattle.areas.specs.Memory.{Memory, levelRef, pixelAt}
 use Rattle.record.specs.declared.Kind.the-variants.{SetRead, SetFollow}
@@ -21,6 +22,9 @@ use Rattle.trie.proofs.Stand.{Pos}
 use Rattle.trie.proofs.World.{Placed}
 use Rattle.trie.proofs.Search.{Phase, again, word}
 use Rattle.trie.proofs.Move.{Frame, FrameOk, Around, Setting, SetOk, Step, Moving, set, sets, set-reads, last-placed}
+use Rattle.trie.proofs.Measure.{phase}
+use Rattle.trie.proofs.Falls.{Falls}
+use Rattle.trie.proofs.MoveFalls.{set-falls}
 use Rattle.trie.proofs.Whole.{Worker, ActOk, is-moving, moving, owner}
 use Rattle.rules.proofs.Matches.{byPos, Place, agains, Framed, Frames, more}
 use Rattle.rules.proofs.Invariant.{WorldOf, At, TurnOk}
@@ -30,7 +34,7 @@ use Rattle.rules.proofs.MoveRecords.{last-is}
 use Rattle.rules.proofs.MoveOn.{Next, next-set, reads-on}
 
 -- the record of worker i, whose innermost Move v shows frame f, and its clause: node N is set into level T, at place x
-pub record Setter {w : ℕ} {s₀ s : Settings} {m : Memory} {W : WorldOf w s₀} {ws : ℕ → Worker} {i : ℕ} {h : Head} {v : Move} {os : List Move} (a : At w s₀ s m W ws i (record′ h (v ∷ os))) (f : Frame) (fs : List Frame) (N T : ℕ) (x : Pos) : Type 0 where
+pub record Setter {w : ℕ} {s₀ s : Settings} {m : Memory} {W : WorldOf w s₀} {ws : ℕ → Worker} {i : ℕ} {h : Head} {v : Move} {os : List Move} (a : At w s₀ s m W ws i (record′ h (v ∷ os))) (f : Frame) (fs : List Frame) (N : ℕ) (p : Phase) (T : ℕ) (x : Pos) : Type 0 where
   pub on : Framed v f
   pub around-on : Frames os fs
   pub level-is : h .level ≡ T
@@ -42,8 +46,9 @@ pub record Setter {w : ℕ} {s₀ s : Settings} {m : Memory} {W : WorldOf w s₀
   pub nodes-are : f .nodes ≡ pre ++ (N ∷ [])
   pub setting : Setting W N (f .child) T x
   pub around : Around W (owner i) (ws i .key) (f .home) (f .key) (f .child) fs
+  pub act-is : ws i .act ≡ moving f fs (set N p)
 
-module _ {w : ℕ} {s₀ s : Settings} {m : Memory} {W : WorldOf w s₀} {ws : ℕ → Worker} {i : ℕ} {h : Head} {v : Move} {os : List Move} {a : At w s₀ s m W ws i (record′ h (v ∷ os))} {f : Frame} {fs : List Frame} {N T : ℕ} {x : Pos} (o : Setter a f fs N T x) where
+module _ {w : ℕ} {s₀ s : Settings} {m : Memory} {W : WorldOf w s₀} {ws : ℕ → Worker} {i : ℕ} {h : Head} {v : Move} {os : List Move} {a : At w s₀ s m W ws i (record′ h (v ∷ os))} {f : Frame} {fs : List Frame} {N T : ℕ} {p : Phase} {x : Pos} (o : Setter a f fs N p T x) where
   -- the node
   pub node-placed : Placed W N
   node-placed = last-placed (a .inv .structure) (o .pre) N (o .frame)
@@ -67,16 +72,20 @@ module _ {w : ℕ} {s₀ s : Settings} {m : Memory} {W : WorldOf w s₀} {ws : �
   puts-ok = both-true (picks-ok a standing) (ap (λ n. pixelFits s n (m .nodes)) node-last ∙ pixel-fits (a .table) (a .inv .structure) N node-placed)
 
   -- the theory's clauses of the worker
-  pub sets-by : {p : Phase} → SetOk W (owner i) N (f .child) p → Moving W (owner i) (ws i .key) f fs (set N p)
+  pub sets-by : {q : Phase} → SetOk W (owner i) N (f .child) q → Moving W (owner i) (ws i .key) f fs (set N q)
   sets-by k = sets (o .pre) (o .frame) (o .nodes-are) k (o .around)
 
-  pub acts-by : {p : Step} → Moving W (owner i) (ws i .key) f fs p → ActOk W (owner i) (ws i .key) (ws i .since) (moving f fs p)
+  pub acts-by : {s : Step} → Moving W (owner i) (ws i .key) f fs s → ActOk W (owner i) (ws i .key) (ws i .since) (moving f fs s)
   acts-by k = is-moving (o .small) (o .since-le) k
 
   -- a turn that writes nothing
-  pub goes-on : {p : Step} {h′ : Head} → Moving W (owner i) (ws i .key) f fs p → Next h h′ f p → TurnOk w s₀ W ws i (going s h′ (v ∷ os) m)
-  goes-on k n = reads-on a (acts-by k) n (more (o .on) (o .around-on))
+  pub goes-on : {q : Step} {h′ : Head} → Falls (levelCount w s₀) W W (moving f fs (set N p)) (moving f fs q) → Moving W (owner i) (ws i .key) f fs q → Next h h′ f q → TurnOk w s₀ W ws i (going s h′ (v ∷ os) m)
+  goes-on l k n = reads-on a (acts-by k) (rw (o .act-is) l) n (more (o .on) (o .around-on))
+
+  -- a later phase of setting the node
+  pub goes-to : {q : Phase} {h′ : Head} → phase W q < phase W p → SetOk W (owner i) N (f .child) q → Next h h′ f (set N q) → TurnOk w s₀ W ws i (going s h′ (v ∷ os) m)
+  goes-to l k n = goes-on (set-falls (a .inv .structure) (levelCount w s₀) (o .frame) (o .around) l) (sets-by k) n
 
   -- the word is not T: SetRead or SetFollow is next
-  pub goes-again : word W (W .pixel N) T x ≢ levelRef T → TurnOk w s₀ W ws i (going s (to (byPos SetRead SetFollow x) h) (v ∷ os) m)
-  goes-again y = goes-on (sets-by (set-reads (o .setting) y)) (next-set (again T x) (agains (o .level-is) (o .place)))
+  pub goes-again : phase W (again T x) < phase W p → word W (W .pixel N) T x ≢ levelRef T → TurnOk w s₀ W ws i (going s (to (byPos SetRead SetFollow x) h) (v ∷ os) m)
+  goes-again l y = goes-to l (set-reads (o .setting) y) (next-set (again T x) (agains (o .level-is) (o .place)))

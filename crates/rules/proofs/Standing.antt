@@ -1,10 +1,10 @@
 -- Where a worker stands, in a search or while a Move sets a node: the cell there, its word, and the parts of question 6 on them.
 -- Relies on what a turn reads and on the theory's places.
 use Prim.Native.Nat.{ℕ, _≤_, _<_}
-use mathlib.Core.Path.{_≡_, refl, sym, ap, ap₂, _∙_}
+use mathlib.Core.Path.{_≡_, sym, ap, ap₂, _∙_}
 use mathlib.Core.Logic.{_≢_}
 use mathlib.Core.Bool.{true, false}
-use mathlib.Core.List.{List, List·Memᴰ·head, Memᴰ·append-right}
+use mathlib.Core.List.{List}
 use native.Mathlib.Omega.{arith}
 use lib.Dec.{eqb, ltb}
 use borrow.Author.Tests.{eqb-true, eqb-false, ltb-true, ltb-false}
@@ -21,8 +21,8 @@ use Rattle.rules.specs.Steps.{expected, byCount}
 use Rattle.rules.specs.Asked.{picksIn, standsAt}
 use Rattle.trie.proofs.Digits.{digit, digit-lt, Dims}
 use Rattle.trie.proofs.Tree.{Published}
-use Rattle.trie.proofs.World.{World, Placed, Structure, along, gone}
-use Rattle.trie.proofs.Stand.{Pos, at-entry, at-node, cellOf, passed, Stand, on-entry, on-node, Free, exchange, Met, meets}
+use Rattle.trie.proofs.World.{World, Structure}
+use Rattle.trie.proofs.Stand.{Pos, at-entry, at-node, cellOf, passed, Stand, on-entry, on-node, stand-placed, Free, exchange, Met, meets}
 use Rattle.trie.proofs.Search.{word}
 use Rattle.trie.proofs.Reached.{Real, real-entry, real-next}
 use Rattle.trie.proofs.Whole.{Worker}
@@ -52,14 +52,10 @@ node-is (node n c) = n
 pub count-is : {h : Head} {R C : ℕ} → Place h (at-node R C) → h .count ≡ C
 count-is (node n c) = c
 
--- a node at which a worker stands is placed, and the word in its cell is a reference to something published or placed
-stand-node : {δ : Dims} {W : World δ} (S : Structure W) {P : ℕ → Type 0} {H e R C : ℕ} → Stand W P H e (at-node R C) → Placed W R
-stand-node S {H = H} {e} {R} (on-node (along pre post c k f r)) = S .homed R H e (rw c (Memᴰ·append-right pre (List·Memᴰ·head refl))) .placed
-stand-node S (on-node (gone z i f)) = i .placed
-
+-- the word in the cell at which a worker stands is a reference to something published or placed
 cell-real : {δ : Dims} {W : World δ} (S : Structure W) {P : ℕ → Type 0} {H e : ℕ} {x : Pos} → Published (W .tree) H → e < δ .base → Stand W P H e x → Real W (W .cell (cellOf H e x))
 cell-real S {H = H} {e} p l on-entry = real-entry S H e p l
-cell-real S p l (on-node {R} k) = real-next S R (stand-node S (on-node k))
+cell-real S p l (on-node {R} k) = real-next S R (stand-placed S (on-node k))
 
 module _ {w : ℕ} {s₀ s : Settings} {m : Memory} {W : WorldOf w s₀} {ws : ℕ → Worker} {i : ℕ} {r : Record} (a : At w s₀ s m W ws i r) {P : ℕ → Type 0} {p K H : ℕ} {x : Pos} (o : Standing W P (r .head) p K H x) where
   -- the level is taken, an entry is picked in it, and its depth is read
@@ -85,7 +81,7 @@ module _ {w : ℕ} {s₀ s : Settings} {m : Memory} {W : WorldOf w s₀} {ws : �
     where
       by : {x : Pos} → Stand W P H (digit (dims w (s₀ .limit)) K (W .tree .depth H)) x → Taken w (s₀ .nodes) (levelCount w s₀) (cellOf H (digit (dims w (s₀ .limit)) K (W .tree .depth H)) x)
       by on-entry = entry-taken (a .table) H K (not-free (o .published))
-      by (on-node {R} k) = next-taken (a .table) R (not-free (stand-node (a .inv .structure) (on-node k)))
+      by (on-node {R} k) = next-taken (a .table) R (not-free (stand-placed (a .inv .structure) (on-node k)))
 
   pub spot-reads : cellAt w m (spot w (r .head) p (m .levels) x) ≡ word W K H x
   spot-reads = ap (cellAt w m) spot-cell ∙ shows-at (a .table .shows) _ spot-taken
@@ -118,7 +114,7 @@ module _ {w : ℕ} {s₀ s : Settings} {m : Memory} {W : WorldOf w s₀} {ws : �
   -- the node is taken too
   pub stands-ok : standsAt s (r .head) ≡ true
   unfolding standsAt
-  stands-ok = both-true (level-ok a o) (ap (nodeTaken s) (node-is (o .place)) ∙ node-taken (a .table) R (not-free (stand-node (a .inv .structure) (o .stand))))
+  stands-ok = both-true (level-ok a o) (ap (nodeTaken s) (node-is (o .place)) ∙ node-taken (a .table) R (not-free (stand-placed (a .inv .structure) (o .stand))))
 
   -- by the count of a node whose next is the level: below the limit or at it
   pub by-count : (Q : Kind → Type 0) (below full past : Kind) → word W K H (at-node R C) ≡ levelRef H → (C < s₀ .limit → Q below) → (C ≡ s₀ .limit → Q full) → Q (byCount s (r .head .count) below full past)

@@ -31,7 +31,7 @@ use Rattle.trie.proofs.Whole.{idle, searching, Worker, is-searching, stay-step}
 use Rattle.rules.proofs.RowSteps.{rowed-start}
 use Rattle.rules.proofs.RowTurns.{Newest}
 use Rattle.rules.proofs.Matches.{entry, peeks, searches}
-use Rattle.rules.proofs.Invariant.{at}
+use Rattle.rules.proofs.Invariant.{WorldOf, Fine, at}
 use Rattle.rules.proofs.Stored.{fine-after}
 use Rattle.rules.proofs.Along.{Along, below, newest-first, newest-past}
 
@@ -60,27 +60,37 @@ pixel-small row column q =
     omega arith
 
 -- the worker that has begun a call for pixel number p, when the book has b pairs
-abbrev begun : Worker → ℕ → ℕ → Worker
+abbrev pub begun : Worker → ℕ → ℕ → Worker
 begun c p b = record { key = p; since = b; node = c .node; level = c .level; act = searching (peek 0 at-entry) }
 
-module _ {w : ℕ} {s₀ : Settings} {x : State} {k : ℕ} {os : List Opened} {cs : List Call} (a : Along w s₀ x k os cs) (i row column : ℕ) where
-  pub opened-start : StartYes w (x .settings) i row column x → Along w s₀ (state (x .settings) (startedAreas w i row column (x .areas))) (suc k) (record { worker = i; index = k; pixel = pixelNumber row column } ∷ os) cs
+-- the state after a start
+module _ {w : ℕ} {s₀ : Settings} {x : State} {W : WorldOf w s₀} {ws : ℕ → Worker} (F : Fine w s₀ x W ws) (i row column : ℕ) (here : i < s₀ .workers) (inside : question5 row column ≡ true) where
+  -- the worker that has begun its call
+  abbrev pub starter : Worker
+  starter = begun (ws i) (pixelNumber row column) (length (W .book))
+
+  pub fine-started : Fine w s₀ (state (x .settings) (startedAreas w i row column (x .areas))) W (upd ws i starter)
   unfolding startedAreas started
-  opened-start y =
-      let F = a .fine in
-      let h : i < s₀ .workers = below a (y .below) in
-      let K = at F i h .matches in
-      let small : pixelNumber row column < base w ^ depths w = rw (F .table .width .all) (pixel-le (y .inside)) in
-      let I = stay-step (F .inv) i c (record {
+  fine-started =
+      let K = at F i here .matches in
+      let e = pixel-small row column inside in
+      let l : pixelNumber row column < suc maxPixel = omega arith in
+      let small : pixelNumber row column < base w ^ depths w = rw (F .table .width .all) l in
+      let I = stay-step (F .inv) i starter (record {
         acts = is-searching small (omega arith) (search.starts (F .inv .structure) (F .inv .partition) small);
         holds-node = F .inv .each i .holds-node;
         holds-level = F .inv .each i .holds-level;
       }) in
+      fine-after F i here (F .table) I (levels-stay (F .levels) i here starter (grows-refl W) refl) (record { pixel-is = refl; node-is = K .node-is; level-is = K .level-is; doing = searches refl refl (peeks refl entry) })
+
+module _ {w : ℕ} {s₀ : Settings} {x : State} {k : ℕ} {os : List Opened} {cs : List Call} (a : Along w s₀ x k os cs) (i row column : ℕ) where
+  pub opened-start : StartYes w (x .settings) i row column x → Along w s₀ (state (x .settings) (startedAreas w i row column (x .areas))) (suc k) (record { worker = i; index = k; pixel = pixelNumber row column } ∷ os) cs
+  opened-start y =
       record {
         world = a .world;
         workers = upd (a .workers) i c;
         starts = upd (a .starts) i k;
-        fine = fine-after F i h (F .table) I (levels-stay (F .levels) i h c (grows-refl (a .world)) refl) (record { pixel-is = refl; node-is = K .node-is; level-is = K .level-is; doing = searches refl refl (peeks refl entry) });
+        fine = fine-started (a .fine) i row column (below a (y .below)) (y .inside);
         top = a .top;
         rows = record { row = a .rows .row; rowed = rowed-start (a .rows .rowed) i c refl; perm = a .rows .perm };
         opened = λ j l b. newest j l b (ℕ-discrete j i);
@@ -88,9 +98,6 @@ module _ {w : ℕ} {s₀ : Settings} {x : State} {k : ℕ} {os : List Opened} {c
     where
       c : Worker
       c = begun (a .workers i) (pixelNumber row column) (length (a .world .book))
-
-      pixel-le : question5 row column ≡ true → pixelNumber row column < suc maxPixel
-      pixel-le q = let e = pixel-small row column q in omega arith
 
       newest : (j : ℕ) → j < s₀ .workers → upd (a .workers) i c j .act ≢ idle → Dec (j ≡ i) → Newest (record { worker = i; index = k; pixel = pixelNumber row column } ∷ os) j (upd (a .starts) i k j) (upd (a .workers) i c j .key)
       newest j l b (yes e) = rw (e, upd-same (a .workers) i c, upd-same (a .starts) i k) (newest-first os i k (pixelNumber row column))

@@ -70,7 +70,7 @@ demand3-of {w} {s₀} {x} a z y es =
       level-left = λ before rest q i h. left-over (run-along before x 0 [] [] a .along) i (rw y at h);
     }
 
-opening-yes : (w : ℕ) (s : Settings) (a : Areas) → AllYes (openingQuestions w s a) → (question1 s ≡ true) × (question2Of w s a ≡ true)
+pub opening-yes : (w : ℕ) (s : Settings) (a : Areas) → AllYes (openingQuestions w s a) → (question1 s ≡ true) × (question2Of w s a ≡ true)
 unfolding openingQuestions every
 opening-yes w s a y = (both-left _ _ y, both-left _ _ (both-right _ _ y))
 

@@ -13,24 +13,20 @@ use Rattle.words.specs.Choice.{asks, firstNo}
 use Rattle.settings.specs.declared.Settings.{Settings}
 use Rattle.record.specs.declared.Answer.{Answer}
 use Rattle.record.specs.declared.Answer.the-variants.{Nothing, Full, Open}
-use Rattle.rules.specs.Heads.{ended}
 use Rattle.rules.specs.Acts.{act}
 use Rattle.rules.specs.Asked.{question4, question7, question8, question9}
-use Rattle.rules.specs.Operations.{Result, recordOf, memoryOf, taken, full, fullRecord, turn, turnQuestions}
+use Rattle.rules.specs.Operations.{Result, recordOf, memoryOf, taken, full, turn, turnQuestions}
 use Rattle.rules.specs.Lists.{State, after}
 use Rattle.rules.specs.Calls.{Call, Opened, turns, happens, leftOpen, opens, ends, endsWith, endingAnswer, ending}
 use Rattle.rules.specs.Demands.{EventOk}
 use Rattle.trie.proofs.Update.{upd}
-use Rattle.trie.proofs.Evolve.{grows-refl}
-use Rattle.trie.proofs.Levels.{levels-stay}
-use Rattle.trie.proofs.Whole.{idle, Worker, is-idle, stay-step}
+use Rattle.trie.proofs.Whole.{idle, Worker}
 use Rattle.rules.proofs.Questions.{first-later, first-yes, none-given, last-no}
 use Rattle.rules.proofs.OneTurn.{turn-number, done-number, nine-is-full, turn-refused, turn-leaves}
 use Rattle.rules.proofs.Invariant.{WorldOf, at, TurnOk, Rowing, goes, ends-new, ends-found}
-use Rattle.rules.proofs.Matches.{rests}
 use Rattle.rules.proofs.Idle.{busy-acts}
 use Rattle.rules.proofs.Asking.{asks-ok, turn-ok}
-use Rattle.rules.proofs.Ending.{none-left, full-unseen}
+use Rattle.rules.proofs.Ending.{none-left, full-unseen, stopped, fine-full}
 use Rattle.rules.proofs.Stored.{fine-after}
 use Rattle.rules.proofs.RowTurns.{ends-one, row-turn, row-full-turn}
 use Rattle.rules.proofs.Along.{Along, below, along-waits, top-stays, newest-stays}
@@ -136,22 +132,20 @@ module _ {w : ℕ} {s₀ : Settings} {x : State} {k : ℕ} {os : List Opened} {c
 
   -- the call ends "full"
   turn-full : turn w (x .settings) i (x .areas) .reply .number ≡ 9 → Along w s₀ (after (turn w (x .settings) i (x .areas))) (suc k) (leftOpen i (turn w (x .settings) i (x .areas) .reply .answer) os) (cs ++ endsWith i k (turn w (x .settings) i (x .areas) .reply .answer) os)
-  unfolding full fullRecord ended
+  unfolding full
   turn-full z =
       let o = turn-open w x i (inr refl) z in
       let F = a .fine in
       let h = below a (o .below) in
       let N = none-left (x .settings) (recordOf w (x .areas) i) (last-no 9 _ (λ y. omega arith) (o .gives)) in
       let b = busy-acts (F .records i h) (o .busy) in
-      let M = F .records i h in
-      let c : Worker = record { key = a .workers i .key; since = a .workers i .since; node = a .workers i .node; level = a .workers i .level; act = idle } in
-      let I = stay-step (F .inv) i c (record { acts = is-idle; holds-node = F .inv .each i .holds-node; holds-level = F .inv .each i .holds-level }) in
-      rw (nine-is-full w (x .settings) i (x .areas) z, full)
+      let c = stopped (a .workers i) in
+      rw (nine-is-full w (x .settings) i (x .areas) z)
       (record {
         world = a .world;
         workers = upd (a .workers) i c;
         starts = a .starts;
-        fine = fine-after F i h (F .table) I (levels-stay (F .levels) i h c (grows-refl (a .world)) refl) (record { pixel-is = M .pixel-is; node-is = M .node-is; level-is = M .level-is; doing = rests refl refl (omega arith) });
+        fine = fine-full F i h;
         top = a .top;
         rows = row-full-turn (F .inv .structure) (F .inv .partition) (a .rows .rowed) (a .rows .perm) i b (a .opened i h b) c refl (full-unseen (at F i h) (N .taking));
         opened = newest-stays s₀ (a .workers) (a .opened) i c Full (λ y. absurd (y refl));

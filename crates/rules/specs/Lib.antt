@@ -22,3 +22,6 @@ pub mod OpenCalls
 pub mod Previous
 pub mod Consequences
 pub mod Sequences
+pub mod Alone
+pub mod AloneAnswers
+pub mod CallsAlone

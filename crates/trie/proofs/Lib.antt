@@ -29,3 +29,8 @@ pub mod Levels
 pub mod Turns
 pub mod Opening
 pub mod Fresh
+pub mod Weights
+pub mod Rank
+pub mod Measure
+pub mod Falls
+pub mod MoveFalls

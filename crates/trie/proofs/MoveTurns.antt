@@ -11,7 +11,7 @@ use Rattle.trie.proofs.Digits.{Dims, top, digit, digit-lt, top-suc, sha
 use Rattle.trie.proofs.Update.{ent, upd-same, upd-other, updC-same, upd₂-same, updL-in, updL-next}
 use Rattle.trie.proofs.Lists.{_∈_, ∈-last, snoc-view, no-length}
 use Rattle.trie.proofs.Chain.{levelRef, nodeRef, endCell, Links, links-next}
-use Rattle.trie.proofs.Tree.{Published, Inside, here, OnPath, inside-pub, path-down}
+use Rattle.trie.proofs.Tree.{Published, Inside, here, OnPath, inside-pub, closed-depth, path-down}
 use Rattle.trie.proofs.World.{World, Placed, lastCell, to-level, Structure, Partition, Deep}
 use Rattle.trie.proofs.Read.{home-path, inside-child, goBack, back-is, exchange-next}
 use Rattle.trie.proofs.Evolve.{path-stays, level-stays}
@@ -95,7 +95,7 @@ open-apart k T d z x = k .real (sym (k .leads) ∙ rw (← x .1, ← x .0) z)
 -- what SetRead and SetFollow come to: another node; or a level, from which going back leads to the child
 pub data SetNext {δ : Dims} (w : World δ) (v K : ℕ) (f : Frame) (fs : List Frame) (N T : ℕ) (x : Pos) : Type 0 where
   set-on : (R : ℕ) → word w (w .pixel N) T x ≡ nodeRef R → Placed w R → Moving w v K f fs (set N (peek T (at-node R (more δ (passed x))))) → SetNext w v K f fs N T x
-  set-down : (t c : ℕ) → word w (w .pixel N) T x ≡ levelRef t → Published (w .tree) t → ((p : ℕ → ℕ) → ((g : ℕ) → Published (w .tree) g → p g ≡ w .tree .prev g) → (k : ℕ) → w .tree .depth t ≤ w .tree .depth T + k → goBack p k T t ≡ c) → (x ≡ at-entry → t ≡ c) → Moving w v K f fs (aim N c) → SetNext w v K f fs N T x
+  set-down : (t c : ℕ) → word w (w .pixel N) T x ≡ levelRef t → Published (w .tree) t → ((p : ℕ → ℕ) → ((g : ℕ) → Published (w .tree) g → p g ≡ w .tree .prev g) → (k : ℕ) → w .tree .depth t ≤ w .tree .depth T + k → goBack p k T t ≡ c) → (x ≡ at-entry → t ≡ c) → w .tree .depth T < w .tree .depth c → Moving w v K f fs (aim N c) → SetNext w v K f fs N T x
 
 -- SetPut, SetAppend done: the node may go to T
 pub put-can : {δ : Dims} {w : World δ} (S : Structure w) {v : ℕ} {f : Frame} {N T : ℕ} {x : Pos} (pre : List ℕ) → FrameOk w v f (pre ++ (N ∷ [])) → Setting w N (f .child) T x → passed x < δ .limit → word w (w .pixel N) T x ≡ levelRef T → CanMove w (f .home) (edge w f) pre N T (digit δ (w .pixel N) (w .tree .depth T))
@@ -187,6 +187,7 @@ module _ {δ : Dims} {w : World δ} (S : Structure w) (Q : Partition w) {v K : �
       by (met-node R r p g) = set-on R r p (sets {N = N} pre k n (set-peeks (record { path = s .path; inside = s .inside; aimed = s .aimed; stand = g tt; counted = more-ok δ R (passed x) })) a)
       by (met-level t r z i g d) =
           set-down t (w .tree .into T (digit δ (w .pixel N) (w .tree .depth T))) r (inside-pub (S .tree-ok .closed T (digit δ (w .pixel N) (w .tree .depth T)) z .to) i) (λ p r j h. back-is (S .tree-ok) p r j z i h) d
+          (omega (arith, closed-depth (S .tree-ok) T (digit δ (w .pixel N) (w .tree .depth T)) z))
           (aims {N = N} pre k n (path-down (S .tree-ok) (s .path) z) (inside-child (S .tree-ok) z (s .inside) (here refl)) a)
 
   -- SetPut, SetAppend done

@@ -11,7 +11,7 @@ use Rattle.trie.proofs.Digits.{Dims, top, digit, digit-lt, top-zero, to
 use Rattle.trie.proofs.Update.{ent, nxt, upd-same, updC-same, updL-in}
 use Rattle.trie.proofs.Lists.{_∈_, ∈-last, ∈-take}
 use Rattle.trie.proofs.Chain.{levelRef, nodeRef}
-use Rattle.trie.proofs.Tree.{Published, inside-pub, OnPath, path-down}
+use Rattle.trie.proofs.Tree.{Published, inside-pub, OnPath, closed-depth, path-down}
 use Rattle.trie.proofs.World.{World, Placed, Structure, Partition, Deep, Other}
 use Rattle.trie.proofs.Read.{not-placed, exchange-next, goBack, back-is}
 use Rattle.trie.proofs.Evolve.{Grows, Spares, path-stays, deep-stays, other-stays}
@@ -111,7 +111,7 @@ module _ {δ : Dims} {w w′ : World δ} (E : Grows w w′) (S : Structure w) (S
 pub data Next {δ : Dims} (w : World δ) (v K b H : ℕ) (x : Pos) : Type 0 where
   found : (R : ℕ) → word w K H x ≡ nodeRef R → Placed w R → w .pixel R ≡ K → Next w v K b H x
   onward : (R : ℕ) → word w K H x ≡ nodeRef R → Placed w R → w .pixel R ≢ K → Local w v K b (peek H (at-node R (more δ (passed x)))) → Next w v K b H x
-  down : (t c : ℕ) → word w K H x ≡ levelRef t → Published (w .tree) t → ((p : ℕ → ℕ) → ((g : ℕ) → Published (w .tree) g → p g ≡ w .tree .prev g) → (k : ℕ) → w .tree .depth t ≤ w .tree .depth H + k → goBack p k H t ≡ c) → (x ≡ at-entry → t ≡ c) → Local w v K b (peek c at-entry) → Next w v K b H x
+  down : (t c : ℕ) → word w K H x ≡ levelRef t → Published (w .tree) t → ((p : ℕ → ℕ) → ((g : ℕ) → Published (w .tree) g → p g ≡ w .tree .prev g) → (k : ℕ) → w .tree .depth t ≤ w .tree .depth H + k → goBack p k H t ≡ c) → (x ≡ at-entry → t ≡ c) → w .tree .depth H < w .tree .depth c → Local w v K b (peek c at-entry) → Next w v K b H x
 
 -- The worker's own turns. e is K's digit at H throughout.
 module _ {δ : Dims} {w : World δ} (S : Structure w) (Q : Partition w) {K : ℕ} where
@@ -199,6 +199,7 @@ module _ {δ : Dims} {w : World δ} (S : Structure w) (Q : Partition w) {K : ℕ
           dec (no e) = onward R q p e (peeks (record { path = s .path; deep = s .deep; stand = f e; counted = more-ok δ R (passed x) }))
       by (met-level t q z i f d) =
           down t (w .tree .into H (digit δ K (w .tree .depth H))) q (inside-pub (S .tree-ok .closed H (digit δ K (w .tree .depth H)) z .to) i) (λ p r k h. back-is (S .tree-ok) p r k z i h) d
+          (omega (arith, closed-depth (S .tree-ok) H (digit δ K (w .tree .depth H)) z))
           (peeks (record { path = path-down (S .tree-ok) (s .path) z; deep = deep-child S (s .path) (s .deep) z f; stand = on-entry; counted = tt }))
 
   -- Take and TakeTail: the node in hand

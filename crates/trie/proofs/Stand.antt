@@ -38,6 +38,11 @@ pub stand-stays : {δ : Dims} {w w′ : World δ} (E : Grows w w′) (S : Struct
 stand-stays E S m on-entry = on-entry
 stand-stays E S m (on-node k) = on-node (walk-stays E m S k)
 
+-- a node at which a worker stands is placed
+pub stand-placed : {δ : Dims} {w : World δ} (S : Structure w) {P : ℕ → Type 0} {H e R C : ℕ} → Stand w P H e (at-node R C) → Placed w R
+stand-placed S {H = H} {e} {R} (on-node (along pre post c k f r)) = S .homed R H e (rw c (Memᴰ·append-right pre (List·Memᴰ·head refl))) .placed
+stand-placed S (on-node (gone z i f)) = i .placed
+
 -- the worker stands at the end of an open chain
 pub record Free {δ : Dims} (w : World δ) (P : ℕ → Type 0) (H e : ℕ) (x : Pos) : Type 0 where
   pub idle : w .tree .into H e ≡ 0

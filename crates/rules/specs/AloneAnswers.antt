@@ -1,0 +1,78 @@
+-- A call that starts with no spare node and has all turns to itself: its answer by the pixels placed before, and what it leaves.
+-- Relies on the run of a call alone and on what is shown from the root.
+use Prim.Native.Nat.{ℕ, suc, _<_}
+use mathlib.Core.Path.{_≡_}
+use mathlib.Core.Logic.{_⊎_}
+use mathlib.Core.Bool.{true}
+use mathlib.Core.List.{List, _∷_, _++_}
+use Rattle.words.specs.Digits.{pixelNumber}
+use Rattle.settings.specs.declared.Settings.{Settings}
+use Rattle.areas.specs.Memory.{Areas}
+use Rattle.record.specs.declared.Answer.the-variants.{New, Found, Full}
+use Rattle.rules.specs.Asked.{question5, question7}
+use Rattle.rules.specs.Operations.{Result, recordOf, opening, start}
+use Rattle.rules.specs.Lists.{State, after}
+use Rattle.rules.specs.Calls.{Event, starts, stateAfter}
+use Rattle.rules.specs.Refusals.{Iff}
+use Rattle.rules.specs.Consequences.{Shown}
+use Rattle.rules.specs.Alone.{runAlone, aloneTurns, turnsOf}
+
+-- worker i holds no node
+abbrev pub NoSpare : ℕ → State → ℕ → Type 0
+NoSpare w x i = recordOf w (x .areas) i .head .«held_node» ≡ 0
+
+-- pixel p is not placed
+abbrev pub NotShown : ℕ → State → ℕ → Type 0
+NotShown w x p = (n : ℕ) → ¬ (Shown w x p n)
+
+-- the same pixels are placed, at the same nodes
+abbrev pub ShowsSame : ℕ → State → State → Type 0
+ShowsSame w x y = (q m : ℕ) → Iff (Shown w y q m) (Shown w x q m)
+
+-- the same, and pixel p at node n
+abbrev pub ShowsMore : ℕ → State → State → ℕ → ℕ → Type 0
+ShowsMore w x y p n = (q m : ℕ) → Iff (Shown w y q m) (Shown w x q m ⊎ ((q ≡ p) × (m ≡ n)))
+
+-- what the last turn of the call for pixel p, which started in state x, gives and leaves
+pub data AnswersAlone (w p : ℕ) (x : State) (r : Result) : Type 0 where
+  -- excludes: a call alone that answers "full" or "new" for a placed pixel, or takes a node for it
+  finds : (n : ℕ) → Shown w x p n → r .reply .answer ≡ Found n → r .reply .settings .«nodes_taken» ≡ x .settings .«nodes_taken» → ShowsSame w x (after r) → AnswersAlone w p x r
+  -- excludes: a call alone that leaves out a number, or takes two
+  places : NotShown w x p → x .settings .«nodes_taken» < x .settings .nodes → r .reply .answer ≡ New (x .settings .«nodes_taken») → r .reply .settings .«nodes_taken» ≡ suc (x .settings .«nodes_taken») → ShowsMore w x (after r) p (x .settings .«nodes_taken») → AnswersAlone w p x r
+  -- excludes: a call alone that answers "full" with a node left
+  lacks : NotShown w x p → x .settings .«nodes_taken» ≡ x .settings .nodes → r .reply .answer ≡ Full → r .reply .settings .«nodes_taken» ≡ x .settings .«nodes_taken» → ShowsSame w x (after r) → AnswersAlone w p x r
+
+pub record CallAlone (w i p : ℕ) (x : State) (r : Result) : Type 0 where
+  pub answers : AnswersAlone w p x r
+  -- excludes: a call alone that leaves a node spare
+  pub no-spare : NoSpare w (after r) i
+  -- excludes: a call whose worker cannot start again
+  pub idle : question7 (recordOf w (after r .areas) i) ≡ true
+
+-- for every state x that a sequence reaches, and every start in it that is carried out on a worker without a spare node
+abbrev pub AnswersStatement : ℕ → Type 0
+AnswersStatement w =
+    (s : Settings) (a : Areas) → opening w s a .reply .number ≡ 0
+    → (es : List Event) (i row column : ℕ)
+    → start w (stateAfter w es (after (opening w s a)) .settings) i row column (stateAfter w es (after (opening w s a)) .areas) .reply .number ≡ 0
+    → NoSpare w (stateAfter w es (after (opening w s a))) i
+    → CallAlone w i (pixelNumber row column) (stateAfter w es (after (opening w s a)))
+    (runAlone w (aloneTurns w s) i (after (start w (stateAfter w es (after (opening w s a)) .settings) i row column (stateAfter w es (after (opening w s a)) .areas))))
+
+-- an idle worker of the table may start a call for any pixel, in every state that a sequence reaches
+abbrev pub StartsStatement : ℕ → Type 0
+StartsStatement w =
+    (s : Settings) (a : Areas) → opening w s a .reply .number ≡ 0
+    → (es : List Event) (i row column : ℕ) → i < s .workers → question5 row column ≡ true
+    → question7 (recordOf w (stateAfter w es (after (opening w s a)) .areas) i) ≡ true
+    → start w (stateAfter w es (after (opening w s a)) .settings) i row column (stateAfter w es (after (opening w s a)) .areas) .reply .number ≡ 0
+
+-- and a call that has all turns to itself leaves a state that a sequence reaches, so that the next one may follow
+abbrev pub ReachesStatement : ℕ → Type 0
+ReachesStatement w =
+    (s : Settings) (a : Areas) → opening w s a .reply .number ≡ 0
+    → (es : List Event) (i row column : ℕ)
+    → start w (stateAfter w es (after (opening w s a)) .settings) i row column (stateAfter w es (after (opening w s a)) .areas) .reply .number ≡ 0
+    → (k : ℕ)
+    × (stateAfter w (es ++ starts i row column ∷ turnsOf i k) (after (opening w s a))
+    ≡ after (runAlone w (aloneTurns w s) i (after (start w (stateAfter w es (after (opening w s a)) .settings) i row column (stateAfter w es (after (opening w s a)) .areas)))))
