@@ -1,7 +1,7 @@
 // Wrong versions of the model: each alters what the model leaves after one operation, and the comparison must find it. So a table that were wrong in
 // the same way would be found. There is at least one for each kind of turn; document 01's shortcuts and wrong firmwares are among them.
 use crate::coverage::Total;
-use crate::model::{Areas, Kind, Kind::*, Model, Reply, FOUND, FULL, KINDS, NEW, NOTHING, OPEN};
+use crate::model::{Areas, Kind, Kind::*, Model, Reply, Settings, FOUND, FULL, KINDS, NEW, NOTHING, OPEN};
 use crate::pair::{Compared, Op};
 use crate::random::Random;
 use crate::sequences;
@@ -15,7 +15,7 @@ pub struct Mutant {
 }
 
 impl Mutant {
-    pub fn alter(&self, op: &Op, before: &Areas, model: &mut Model, reply: &mut Reply) {
+    pub fn alter(&self, op: &Op, before: &Areas, given: Settings, model: &mut Model, reply: &mut Reply) {
         if !matches!(reply.number, 0 | 9) {
             return;
         }
@@ -23,7 +23,7 @@ impl Mutant {
             Op::Start(i, ..) | Op::Turn(i) | Op::Last(i) => *i,
             Op::Open | Op::Turns(..) => 0,
         };
-        let mut x = Wrong { before, model, reply, worker };
+        let mut x = Wrong { before, given, model, reply, worker };
         if let Some(kind) = self.kind {
             if !matches!(op, Op::Turn(_)) || x.reply.number != 0 || x.was(KIND) != kind as u32 {
                 return;
@@ -34,9 +34,10 @@ impl Mutant {
     }
 }
 
-// The model after an operation, with the areas before it.
+// The model after an operation, with the areas and the settings before it.
 struct Wrong<'a> {
     before: &'a Areas,
+    given: Settings,
     model: &'a mut Model,
     reply: &'a mut Reply,
     worker: u32,
@@ -99,6 +100,12 @@ impl Wrong<'_> {
     // the level whose reference R's next was
     fn level_met(&self) -> u32 {
         self.view().read() / 2
+    }
+    // another operation is done in place of this one
+    fn instead(&mut self, op: &Op) {
+        self.model.areas.copy(self.before);
+        self.model.settings = self.given;
+        *self.reply = self.model.run(op);
     }
     // the entry of the call's pixel in the innermost Move's home, also inside another Move
     fn entry_of_the_call(&self) -> Place {
@@ -237,6 +244,16 @@ static MUTANTS: &[Mutant] = &[
             *x.reply = x.model.run(op);
         }
     }),
+    // the same with the answers told turn by turn, so that the memory alone shows it
+    operation("a whole call in its first turn, and its answer only at its end", |op, x| {
+        if let (Op::Turn(_), OPEN) = (op, x.reply.answer) {
+            let told = x.reply.answer;
+            while x.reply.answer == OPEN {
+                *x.reply = x.model.run(op);
+            }
+            (x.reply.number, x.reply.answer, x.reply.node) = (0, told, 0);
+        }
+    }),
     operation("full with nodes left", |op, x| {
         if matches!(op, Op::Turn(_)) && x.went_to(Put) {
             x.to(Idle);
@@ -289,6 +306,17 @@ static MUTANTS: &[Mutant] = &[
     operation("last answer: the answer before, during a call", |op, x| {
         if matches!(op, Op::Last(_)) && x.reply.answer == OPEN {
             x.reply.answer = x.is(ANSWER);
+        }
+    }),
+    operation("list: idle entries use up the limit", |op, x| {
+        if let Op::Turns(list, limit) = op {
+            let reached = list.iter().take(*limit as usize).copied().collect();
+            x.instead(&Op::Turns(reached, *limit));
+        }
+    }),
+    operation("list: idle entries are counted as turns done", |op, x| {
+        if let Op::Turns(list, limit) = op {
+            x.reply.turns = (list.len() as u32).min(*limit);
         }
     }),
     operation("list: limit 0 does one turn", |op, x| {

@@ -87,7 +87,7 @@ impl Pair {
         let got = self.table.run(&op);
         let mut want = self.model.run(&op);
         if let Some(m) = self.mutant {
-            m.alter(&op, &self.before, &mut self.model, &mut want);
+            m.alter(&op, &self.before, given, &mut self.model, &mut want);
         }
         self.steps += 1;
         if got != want || self.table.areas != self.model.areas {
