@@ -42,6 +42,7 @@ pub data AnswersAlone (w p : ℕ) (x : State) (r : Result) : Type 0 where
   -- excludes: a call alone that answers "full" with a node left
   lacks : NotShown w x p → x .settings .«nodes_taken» ≡ x .settings .nodes → r .reply .answer ≡ Full → r .reply .settings .«nodes_taken» ≡ x .settings .«nodes_taken» → ShowsSame w x (after r) → AnswersAlone w p x r
 
+-- the same, and what it leaves its worker: a call may start again as this one did
 pub record CallAlone (w i p : ℕ) (x : State) (r : Result) : Type 0 where
   pub answers : AnswersAlone w p x r
   -- excludes: a call alone that leaves a node spare

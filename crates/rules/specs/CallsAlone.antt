@@ -28,21 +28,24 @@ unfoldable pub indexOf : ℕ → List ℕ → ℕ
 indexOf p [] = 0
 indexOf p (q ∷ l) = pick (eqb q p) 0 (suc (indexOf p l))
 
+-- the pixel is in the list
 unfoldable pub listed : ℕ → List ℕ → Bool
 listed p l = ltb (indexOf p l) (length l)
 
--- the answer of a list of at most `nodes` pixels, and the list after it
+-- the answer of a list of at most `nodes` pixels: "found" at its place, "new" at the next place, "full" where there is none
 unfoldable pub flatAnswer : ℕ → List ℕ → ℕ → Answer
 flatAnswer nodes l p = pick (listed p l) (Found (indexOf p l)) (pick (ltb (length l) nodes) (New (length l)) Full)
 
+-- the list after it
 unfoldable pub flatNext : ℕ → List ℕ → ℕ → List ℕ
 flatNext nodes l p = pick (listed p l) l (pick (ltb (length l) nodes) (l ++ (p ∷ [])) l)
 
--- all answers, and the list at the end
+-- the answers to several pixels, one after the other
 unfoldable pub flatAnswers : ℕ → List ℕ → List Place → List Answer
 flatAnswers nodes l [] = []
 flatAnswers nodes l (p ∷ ps) = flatAnswer nodes l (pixelNumber (p .0) (p .1)) ∷ flatAnswers nodes (flatNext nodes l (pixelNumber (p .0) (p .1))) ps
 
+-- the list after all of them
 unfoldable pub flatLast : ℕ → List ℕ → List Place → List ℕ
 flatLast nodes l [] = l
 flatLast nodes l (p ∷ ps) = flatLast nodes (flatNext nodes l (pixelNumber (p .0) (p .1))) ps
@@ -51,10 +54,12 @@ flatLast nodes l (p ∷ ps) = flatLast nodes (flatNext nodes l (pixelNumber (p .
 unfoldable pub callAlone : ℕ → ℕ → ℕ → Place → State → Result
 callAlone w n i p x = runAlone w n i (after (start w (x .settings) i (p .0) (p .1) (x .areas)))
 
+-- the answers of calls that each run to their end before the next starts
 unfoldable pub answersAlone : ℕ → ℕ → ℕ → List Place → State → List Answer
 answersAlone w n i [] x = []
 answersAlone w n i (p ∷ ps) x = callAlone w n i p x .reply .answer ∷ answersAlone w n i ps (after (callAlone w n i p x))
 
+-- the state after all of them
 unfoldable pub lastAlone : ℕ → ℕ → ℕ → List Place → State → State
 lastAlone w n i [] x = x
 lastAlone w n i (p ∷ ps) x = lastAlone w n i ps (after (callAlone w n i p x))

@@ -23,6 +23,11 @@ pub record Closes (w : ℕ) (s : Settings) (i : ℕ) (a : Areas) (r : Result) : 
   -- the worker is idle, and its last answer is "full"
   pub idle : question7 (recordOf w (r .areas) i) ≡ true
   pub told : lastOf (recordOf w (r .areas) i .head) ≡ Full
+  -- and it keeps what it holds
+  pub node-stays : recordOf w (r .areas) i .head .«held_node» ≡ recordOf w a i .head .«held_node»
+  pub level-stays : recordOf w (r .areas) i .head .«held_level» ≡ recordOf w a i .head .«held_level»
 
+-- every turn that is given 9
+-- excludes: a "full" that loses the worker's spare level; one that leaves the call open
 abbrev pub FullCloses : ℕ → Type 0
 FullCloses w = (s : Settings) (i : ℕ) (a : Areas) → turn w s i a .reply .number ≡ 9 → Closes w s i a (turn w s i a)
