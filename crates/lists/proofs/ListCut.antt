@@ -1,26 +1,25 @@
 -- A list of turns in the code's parts is the list that document 01 defines: the limit that counts down tells the turns done.
 -- Relies on that questions 1 to 3 stay answered yes, and on the laws of the entries reached.
 use Prim.Native.Nat.{ℕ, zero, suc, _+_, _-_}
-use mathlib.Core.Path.{_≡_, refl, sym, ap, _∙_}
+use mathlib.Core.Path.{_≡_, refl, ap, _∙_}
 use mathlib.Core.Logic.{_≢_}
-use mathlib.Core.Bool.{Bool, true, false, not}
+use mathlib.Core.Bool.{true, false, not}
 use mathlib.Core.List.{List, [], _∷_}
 use native.Mathlib.Decide.{ℕ-discrete}
 use native.Mathlib.Omega.{arith}
 use lib.Dec.{eqb, ltb}
 use borrow.Author.Tests.{eq-eqb, ne-eqb}
-use Rattle.words.specs.Choice.{pick, both, every, asks, firstNo}
-use Rattle.words.proofs.Choice.{pick-both, pick-true, pick-false, both-left, both-right, both-true, both-false-left}
+use Rattle.words.specs.Choice.{pick, both, every}
+use Rattle.words.proofs.Choice.{pick-both, pick-true, pick-false, both-left, both-right, both-false-left}
 use Rattle.settings.specs.declared.Settings.{Settings}
 use Rattle.areas.specs.Memory.{Areas}
-use Rattle.rules.specs.Asked.{question4, question4All, question6, question8, question9}
+use Rattle.rules.specs.Asked.{question4, question4All}
 use Rattle.settings.specs.Sizes.{question1, question3}
-use Rattle.rules.specs.Operations.{reply, question2Of, recordOf, memoryOf, turn, turnQuestions}
-use Rattle.rules.specs.Lists.{State, state, after, Visit, visit, turnAt, leftAfter, visits, endState, metSix, counts, turnsDone, listNumber, turnsResult}
-use Rattle.rules.specs.Refusals.{here, later}
-use Rattle.rules.proofs.Questions.{first-later, first-yes, gives-first-no}
-use Rattle.rules.proofs.OneTurn.{turn-number, six-leaves, eight-leaves}
-use Rattle.rules.proofs.Visits.{none-left}
+use Rattle.rules.specs.Operations.{reply, question2Of, turn}
+use Rattle.rules.specs.Lists.{State, state, after, Visit, visit, turnAt, visits, endState, metSix, counts, turnsDone, listNumber, turnsResult}
+use Rattle.rules.proofs.OneTurn.{six-leaves, eight-leaves}
+use Rattle.rules.proofs.Visits.{six-uncounted}
+use Rattle.rules.proofs.Entries.{open-8, eight-uncounted, open-counted, no-six, is-six, visits-six, visits-eight, visits-other}
 use Rattle.lists.specs.Cut.{Run, run, ranBy, ranEntry, ranList, ranResult}
 use Rattle.turns.proofs.Three.{Three, three-stays}
 
@@ -61,38 +60,10 @@ pub record Agrees (w : ℕ) (n : ℕ) (x : State) (vs : List Visit) (u : Run) : 
   pub state-is : endState w x vs ≡ u .state′
   pub done-is : turnsDone w vs + u .left ≡ n
 
--- the worker of a turn that has neither 6 nor 8 has a call open, questions 1 to 4 being answered yes
-open-8 : (w : ℕ) {workers : ℕ} (x : State) (i : ℕ) → Three w workers x → question4 (x .settings) i ≡ true → turn w (x .settings) i (x .areas) .reply .number ≢ 6 → turn w (x .settings) i (x .areas) .reply .number ≢ 8 → question8 (recordOf w (x .areas) i) ≡ true
-unfolding turnQuestions
-open-8 w x i y q h g = by (question6 w (x .settings) (recordOf w (x .areas) i) (memoryOf (x .areas))) refl (question8 (recordOf w (x .areas) i)) refl
-  where
-    -- after questions 1 to 4
-    e₄ : turn w (x .settings) i (x .areas) .reply .number ≡ firstNo (asks 6 (question6 w (x .settings) (recordOf w (x .areas) i) (memoryOf (x .areas))) ∷ asks 8 (question8 (recordOf w (x .areas) i)) ∷ asks 9 (question9 (x .settings) (recordOf w (x .areas) i)) ∷ [])
-    e₄ = turn-number w (x .settings) i (x .areas) ∙ first-yes 1 _ (y .one) ∙ first-yes 2 _ (y .two) ∙ first-yes 3 _ (y .three) ∙ first-yes 4 _ q
-
-    by : (b : Bool) → question6 w (x .settings) (recordOf w (x .areas) i) (memoryOf (x .areas)) ≡ b → (c : Bool) → question8 (recordOf w (x .areas) i) ≡ c → question8 (recordOf w (x .areas) i) ≡ true
-    by true e true d = d
-    by false e c d = absurd (h (e₄ ∙ gives-first-no (here refl e)))
-    by true e false d = absurd (g (e₄ ∙ gives-first-no (later e (here refl d))))
-
--- the entries reached behind one that met 6, was skipped, or was done
-module _ (w : ℕ) (i n : ℕ) (l : List ℕ) (x : State) where
+-- an entry of the list that is reached
+module _ (w : ℕ) (i : ℕ) (x : State) where
   abbrev v : Visit
   v = visit i x
-
-  visits-six : turnAt w v .reply .number ≡ 6 → visits w (i ∷ l) (suc n) x ≡ v ∷ []
-  unfolding visits leftAfter
-  visits-six e = ap (λ k. v ∷ visits w l k (after (turnAt w v))) (pick-true _ _ _ (eq-eqb _ _ e)) ∙ ap (λ vs. v ∷ vs) (none-left w l _)
-
-  visits-eight : turnAt w v .reply .number ≡ 8 → visits w (i ∷ l) (suc n) x ≡ v ∷ visits w l (suc n) x
-  unfolding visits leftAfter
-  visits-eight e =
-      ap (λ k. v ∷ visits w l k (after (turnAt w v))) (pick-false _ _ _ (ne-eqb (turnAt w v .reply .number) 6 (λ z. omega arith)) ∙ pick-true _ _ _ (eq-eqb _ _ e))
-      ∙ ap (λ y. v ∷ visits w l (suc n) y) (eight-leaves w (x .settings) i (x .areas) e)
-
-  visits-other : turnAt w v .reply .number ≢ 6 → turnAt w v .reply .number ≢ 8 → visits w (i ∷ l) (suc n) x ≡ v ∷ visits w l n (after (turnAt w v))
-  unfolding visits leftAfter
-  visits-other h g = ap (λ k. v ∷ visits w l k (after (turnAt w v))) (pick-false _ _ _ (ne-eqb _ 6 h) ∙ pick-false _ _ _ (ne-eqb _ 8 g))
 
   -- one entry more in front, which met no 6 and counts c
   agrees-more : (k j c : ℕ) {vs : List Visit} {u : Run} → j ≡ c + k → metSix w v ≡ false → _≡_ {A = ℕ} (pick (counts w v) 1 0) c → Agrees w k (after (turnAt w v)) vs u → Agrees w j x (v ∷ vs) u
@@ -104,50 +75,17 @@ module _ (w : ℕ) (i n : ℕ) (l : List ℕ) (x : State) where
         done-is = let d = a .done-is in omega arith;
       }
 
-none-eight : firstNo [] ≢ 8
-unfolding firstNo
-none-eight z = omega arith
-
-pub eight-idle : (w : ℕ) (x : State) (i : ℕ) → turn w (x .settings) i (x .areas) .reply .number ≡ 8 → question8 (recordOf w (x .areas) i) ≡ false
-unfolding turnQuestions
-eight-idle w x i e =
-    let (y₁, e₁) = first-later 1 _ _ (λ z. omega arith) (sym (turn-number w (x .settings) i (x .areas)) ∙ e) in
-    let (y₂, e₂) = first-later 2 _ _ (λ z. omega arith) e₁ in
-    let (y₃, e₃) = first-later 3 _ _ (λ z. omega arith) e₂ in
-    let (y₄, e₄) = first-later 4 _ _ (λ z. omega arith) e₃ in
-    let (y₆, e₆) = first-later 6 _ _ (λ z. omega arith) e₄ in
-    by (question8 (recordOf w (x .areas) i)) refl e₆
-  where
-    by : (b : Bool) → question8 (recordOf w (x .areas) i) ≡ b → firstNo (asks 8 (question8 (recordOf w (x .areas) i)) ∷ asks 9 (question9 (x .settings) (recordOf w (x .areas) i)) ∷ []) ≡ 8 → question8 (recordOf w (x .areas) i) ≡ false
-    by false q z = q
-    by true q z = absurd (none-eight (first-later 9 _ _ (λ y. omega arith) (sym (first-yes 8 _ q) ∙ z) .1))
-
--- whether an entry counts, by its turn's number
-module _ (w : ℕ) (i : ℕ) (x : State) where
-  counts-not : turn w (x .settings) i (x .areas) .reply .number ≡ 8 → _≡_ {A = ℕ} (pick (counts w (visit i x)) 1 0) 0
-  unfolding counts
-  counts-not e = pick-false _ _ _ (both-false-left _ (eight-idle w x i e))
-
-  counts-one : question8 (recordOf w (x .areas) i) ≡ true → turn w (x .settings) i (x .areas) .reply .number ≢ 6 → _≡_ {A = ℕ} (pick (counts w (visit i x)) 1 0) 1
-  unfolding counts metSix
-  counts-one q h = pick-true _ _ _ (both-true q (ap not (ne-eqb _ 6 h)))
-
-  no-six : turn w (x .settings) i (x .areas) .reply .number ≢ 6 → metSix w (visit i x) ≡ false
-  unfolding metSix
-  no-six h = ne-eqb _ 6 h
-
-  six-alone : {n : ℕ} → turn w (x .settings) i (x .areas) .reply .number ≡ 6 → Agrees w (suc n) x (visit i x ∷ []) (run 6 x (suc n))
-  unfolding listNumber endState turnsDone every both counts metSix
+  -- an entry that met 6 alone
+  six-alone : {n : ℕ} → turnAt w v .reply .number ≡ 6 → Agrees w (suc n) x (v ∷ []) (run 6 x (suc n))
+  unfolding listNumber endState turnsDone every
   six-alone e =
+      let six = is-six w x i e in
+      let z : _≡_ {A = ℕ} (pick (counts w v) 1 0) 0 = pick-false _ _ _ (six-uncounted w v six) in
       record {
-        number-is = pick-false _ _ _ (both-false-left _ (ap not (eq-eqb _ _ e)));
+        number-is = pick-false _ _ _ (both-false-left _ (ap not six));
         state-is = six-leaves w (x .settings) i (x .areas) e;
-        done-is = let z : _≡_ {A = ℕ} (pick (both (question8 (recordOf w (x .areas) i)) (not (eqb (turn w (x .settings) i (x .areas) .reply .number) 6))) 1 0) 0 = pick-false _ _ _ (uncounted (question8 (recordOf w (x .areas) i)) (ap not (eq-eqb _ _ e))) in omega arith;
+        done-is = omega arith;
       }
-    where
-      uncounted : (a : Bool) {b : Bool} → b ≡ false → both a b ≡ false
-      uncounted true h = h
-      uncounted false h = refl
 
 agrees-none : (w n : ℕ) (x : State) → Agrees w n x (visits w [] n x) (ranList w [] (run 0 x n))
 unfolding visits ranList listNumber endState turnsDone every pick
@@ -170,10 +108,10 @@ agrees-step w i n l x y q skipped done = by (ℕ-discrete (turn w (x .settings) 
         (six-alone w i x e)
     by (no h) (yes e) =
         rw (visits-eight w i n l x e, ran-step w i l (run 0 x (suc n)) (run 0 x (suc n)) (entry-eight w i n x e))
-        (agrees-more w i n l x (suc n) (suc n) 0 (omega arith) (no-six w i x h) (counts-not w i x e) (rw (eight-leaves w (x .settings) i (x .areas) e) skipped))
+        (agrees-more w i x (suc n) (suc n) 0 (omega arith) (no-six w x i h) (pick-false _ _ _ (eight-uncounted w x i e)) (rw (eight-leaves w (x .settings) i (x .areas) e) skipped))
     by (no h) (no g) =
         rw (visits-other w i n l x h g, ran-step w i l (run 0 x (suc n)) (run 0 (after (turn w (x .settings) i (x .areas))) n) (entry-other w i n x h g))
-        (agrees-more w i n l x n (suc n) 1 (omega arith) (no-six w i x h) (counts-one w i x (open-8 w x i y q h g) h) done)
+        (agrees-more w i x n (suc n) 1 (omega arith) (no-six w x i h) (pick-true _ _ _ (open-counted w x i (open-8 w x i (y .one) (y .two) (y .three) q h g) h)) done)
 
 below-workers : {w workers : ℕ} {x : State} (i : ℕ) → Three w workers x → ltb i workers ≡ true → question4 (x .settings) i ≡ true
 unfolding question4

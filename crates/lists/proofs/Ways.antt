@@ -26,6 +26,7 @@ use Rattle.rules.specs.Asked.{question4, question4All, question7, question8}
 use Rattle.rules.specs.Operations.{Result, result, reply, refused, unlessRefused, turn}
 use Rattle.rules.specs.Lists.{State, state, turns, turnsResult, visits, listQuestions}
 use Rattle.rules.proofs.OneTurn.{six-leaves}
+use Rattle.rules.proofs.Entries.{eight-idle}
 use Rattle.table.specs.Cut.{firstFour}
 use Rattle.turns.specs.Cut.{turnHere, doneOf, Did, did, didBy, didHere}
 use Rattle.turns.specs.declared.Done.{Done}
@@ -33,7 +34,7 @@ use Rattle.turns.proofs.Ways.{three-of, three-inside, here-idle, here-turn}
 use Rattle.lists.specs.declared.Tally.{Tally}
 use Rattle.lists.specs.Cut.{Run, run, countedBy, ranOf, tally, idleTally, openTally, overOf, ranBy, ranEntry, ranList, ranResult}
 use Rattle.turns.proofs.Three.{Three, three-stays, SameSizes, sizes-stay}
-use Rattle.lists.proofs.ListCut.{stopped, refused-on, eight-idle, list-cut}
+use Rattle.lists.proofs.ListCut.{stopped, refused-on, list-cut}
 
 -- questions 1 to 3 as the code asks them
 pub of-three : (w : ℕ) (s : Settings) (n g k : List ℕ) {workers : ℕ} → Three w workers (state s (areas n g k)) → firstThree w s (length n) (length g) (length k) ≡ 0

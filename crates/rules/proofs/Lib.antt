@@ -78,3 +78,6 @@ pub mod Excess
 pub mod Access
 pub mod Closes
 pub mod Openings
+pub mod Three
+pub mod Entries
+pub mod ListEnds

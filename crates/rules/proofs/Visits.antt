@@ -72,7 +72,7 @@ pub six-stops : (w : ℕ) (v : Visit) (l : List ℕ) (n : ℕ) (x : State) → m
 six-stops w v l n x h = ap (λ m. visits w l m x) (six-ends w v n h) ∙ none-left w l x
 
 -- a list with an entry is not empty
-not-empty : (before : List Visit) (v : Visit) (rest : List Visit) → [] ≡ before ++ v ∷ rest → ⊥
+pub not-empty : (before : List Visit) (v : Visit) (rest : List Visit) → [] ≡ before ++ v ∷ rest → ⊥
 not-empty [] v rest e = let y : _≡_ {A = ℕ} 0 1 = cc in omega arith
 not-empty (u ∷ before) v rest e = let y : _≡_ {A = ℕ} 0 1 = cc in omega arith
 

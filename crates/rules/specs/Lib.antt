@@ -16,6 +16,7 @@ pub mod Excess
 pub mod Access
 pub mod Closes
 pub mod Openings
+pub mod ListEnds
 pub mod Demands
 pub mod LastAnswers
 pub mod OpenCalls
