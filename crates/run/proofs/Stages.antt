@@ -6,12 +6,12 @@ use mathlib.Core.List.{List, [], _∷_}
 use Prim.Native.Nat.{ℕ, suc, _+_, _-_, _≤_, _<_}
 use native.Mathlib.Numerals.{add-one}
 use native.Mathlib.Omega.{arith}
-use lib.Dec.{eqb}
+use lib.Dec.{eqb, leb}
 use lib.ListN.{length, take, drop, length-drop}
 use lib.Seq.{take-all, drop-drop}
-use borrow.Author.Tests.{le-leb, lt-leb, eq-eqb, ne-eqb, ltb-true}
-use Rattle.words.specs.Choice.{pick}
-use Rattle.words.proofs.Choice.{true-false}
+use borrow.Author.Tests.{le-leb, lt-leb, leb-true, eq-eqb, ne-eqb, ltb-true}
+use Rattle.words.specs.Choice.{pick, both}
+use Rattle.words.proofs.Choice.{true-false, both-left, both-right, both-true}
 use Rattle.settings.specs.Sizes.{fresh}
 use Rattle.settings.specs.declared.Settings.{Settings}
 use Rattle.areas.specs.Memory.{Areas}
@@ -35,7 +35,7 @@ use denote.Enum.Declared.{tagOf}
 use types.Run.{OneOf, miss}
 use Rattle.run.proofs.Stage.{the-type}
 use Rattle.run.specs.Program.{line, carried, firstLine, restPrints, linesPrint, openedPrints, inputPrints, prints}
-use Rattle.run.specs.Remaining.{progress, told, begun, remainingAt, remaining, leftAt, left, Counted, FineAt, Fine, Prints, NextAt, Next, goesOn}
+use Rattle.run.specs.Remaining.{progress, told, begun, remainingAt, remaining, leftAt, left, counted, canStandAt, canStand, Prints, Next, goesOn}
 
 -- the choice where the test is known
 pub picks-yes : {A : Type 0} (b : Bool) (y : A) {r x : A} → r ≡ x → b ≡ true → r ≡ pick b x y
@@ -88,51 +88,80 @@ lines-more n q (p ∷ ps) x h = refl
 some-part : (b : ℕ) (l : List ℕ) → 1 ≤ length (split b l)
 some-part b l = rw (split-more b l .2) (omega arith)
 
+-- what the test of a later line says
+record Counted (p : Progress) (n : ℕ) : Type 0 where
+  line : p .line ≤ p .at + 1
+  place : p .at ≤ n
+  short : n ≤ 65536
+
+counted-is : {p : Progress} {n : ℕ} → Counted p n → counted p n ≡ true
+unfolding counted
+counted-is h = both-true (le-leb _ _ (h .short)) (both-true (le-leb _ _ (h .place)) (le-leb _ _ (h .line)))
+
+module _ (p : Progress) (n : ℕ) where
+  counted-says : counted p n ≡ true → Counted p n
+  unfolding counted
+  counted-says e =
+      let f = both-right (leb n 65536) _ e in
+      record { short = leb-true _ _ (both-left _ _ e); place = leb-true _ _ (both-left _ _ f); line = leb-true _ _ (both-right (leb (p .at) n) _ f) }
+
+  pub counted-line : n ≤ 65536 → p .at ≤ n → leb (p .line) (p .at + 1) ≡ counted p n
+  unfolding counted both
+  counted-line h i = simp (le-leb n 65536 h, le-leb (p .at) n i)
+
+  pub counted-far : n ≤ 65536 → n < p .at → false ≡ counted p n
+  unfolding counted both
+  counted-far h i = simp (le-leb n 65536 h, lt-leb (p .at) n i)
+
+  pub counted-long : 65536 < n → false ≡ counted p n
+  unfolding counted both
+  counted-long h = simp (lt-leb n 65536 h)
+
 module _ (p : Progress) (input : List ℕ) (a : Areas) where
   -- a stage that is known, and what is told
   tells :
       {g : Stage} {b : Areas} {r t : Told}
-      → p .stage ≡ g → r ≡ t → remainingAt g p input a ≡ t .printed ∷ remaining (t .progress) input b → Fine (t .progress) input
+      → p .stage ≡ g → r ≡ t → remainingAt g p input a ≡ t .printed ∷ remaining (t .progress) input b → canStand (t .progress) input ≡ true
       → left (t .progress) input < leftAt g p input → Prints p input a r b
   tells {g} {b} {r} {t} e f x y z =
       let l : left (t .progress) input < left p input = subst (λ (h : Stage). left (t .progress) input < leftAt h p input) (sym e) z in
       subst (λ (u : Told). Prints p input a u b) (sym f)
-      (record { says = ap (λ (h : Stage). remainingAt h p input a) e ∙ x; fine = y; less = l })
+      (record { says = ap (λ (h : Stage). remainingAt h p input a) e ∙ x; stands = y; less = l })
 
   pub begin-short :
       {r : Told} → r ≡ told Header (progress First (p .line) (p .at) (p .settings)) → p .stage ≡ Begin → length input ≤ 65536 → Prints p input a r a
-  unfolding remainingAt leftAt FineAt prints pick
-  begin-short f e h = tells e f (simp (le-leb _ _ h)) h (omega arith)
+  unfolding remainingAt leftAt canStandAt prints pick
+  begin-short f e h = tells e f (simp (le-leb _ _ h)) (le-leb _ _ h) (omega arith)
 
   pub begin-long :
       {r : Told} → r ≡ told Header (progress TooLong (p .line) (p .at) (p .settings)) → p .stage ≡ Begin → 65536 < length input → Prints p input a r a
-  unfolding remainingAt leftAt FineAt prints pick
-  begin-long f e h = tells e f (simp (lt-leb _ _ h)) tt (omega arith)
+  unfolding remainingAt leftAt canStandAt prints pick
+  begin-long f e h = tells e f (simp (lt-leb _ _ h)) refl (omega arith)
 
   pub too-long :
       {r : Told} → r ≡ told (Refused 0 10) (progress Done (p .line) (p .at) (p .settings)) → p .stage ≡ TooLong → Prints p input a r a
-  unfolding remainingAt leftAt FineAt
-  too-long f e = tells e f refl tt (omega arith)
+  unfolding remainingAt leftAt canStandAt
+  too-long f e = tells e f refl refl (omega arith)
 
   pub last-told :
       {r : Told} {x : Printed} → r ≡ told x (progress Done (p .line) (p .at) (p .settings))
       → x ≡ End (p .settings .«nodes_taken») (p .settings .«levels_taken») → p .stage ≡ Last → Prints p input a r a
-  unfolding remainingAt leftAt FineAt
-  last-told f k e = tells e f (simp k) tt (omega arith)
+  unfolding remainingAt leftAt canStandAt
+  last-told f k e = tells e f (simp k) refl (omega arith)
 
   -- the first line
   pub first-none :
       {r : Told} {x : Bool} → r ≡ told (Refused 1 10) (progress Done (p .line) (p .at) (p .settings)) → x ≡ has 10 input → x ≡ false
       → p .stage ≡ First → Prints p input a r a
-  unfolding remainingAt leftAt FineAt inputPrints
-  first-none f h k e = tells e f (rw (split-none 10 input (sym h ∙ k)) refl) tt (omega arith)
+  unfolding remainingAt leftAt canStandAt inputPrints
+  first-none f h k e = tells e f (rw (split-none 10 input (sym h ∙ k)) refl) refl (omega arith)
 
   pub first-told :
       {r : Reply} {t : Told} {b : Areas} {q : List ℕ} {m : Command} {x : Bool}
       → t ≡ pick (eqb (r .number) 0) (told Nothing (progress Lines 2 (length q + 1) (r .settings))) (told (Refused 1 (r .number)) (progress Done 2 (length q + 1) (r .settings)))
       → result r b ≡ firstLine m a → m ≡ command q → q ≡ upTo 10 input → x ≡ has 10 input → x ≡ true → p .stage ≡ First
       → length input ≤ 65536 → Prints p input a t b
-  unfolding remainingAt leftAt FineAt openedPrints pick
+  unfolding remainingAt leftAt canStandAt openedPrints pick
   first-told {r} {t} {b} {q} f o j u k v e h = go (eqb (r .number) 0) refl
     where
       here : has 10 input ≡ true
@@ -147,27 +176,32 @@ module _ (p : Progress) (input : List ℕ) (a : Areas) where
       go : (z : Bool) → eqb (r .number) 0 ≡ z → Prints p input a t b
       go true z =
           let s : length q < length input = rw u (before-shorter 10 input here) in
-          tells e (simp z at f) (all ∙ (simp (← j, ← o, z))) (record { line = omega arith; place = omega arith; short = h }) (omega arith)
-      go false z = tells e (simp z at f) (all ∙ (simp (← j, ← o, z))) tt (omega arith)
+          tells e (simp z at f) (all ∙ (simp (← j, ← o, z))) (counted-is (record { line = omega arith; place = omega arith; short = h })) (omega arith)
+      go false z = tells e (simp z at f) (all ∙ (simp (← j, ← o, z))) refl (omega arith)
 
   -- a later line
-  pub line-line : Counted p input → p .line ≤ 65537
-  line-line h = omega arith
+  pub line-place : counted p (length input) ≡ true → p .at ≤ length input
+  line-place h = counted-says p (length input) h .place
+
+  pub line-line : counted p (length input) ≡ true → p .line ≤ 65537
+  line-line h = let c : Counted p (length input) = counted-says p (length input) h in omega arith
 
   pub line-fits :
-      {l q : List ℕ} {x : Bool} → q ≡ upTo 10 l → x ≡ has 10 l → x ≡ true → l ≡ drop (p .at) input → Counted p input → p .at + length q ≤ 65536
+      {l q : List ℕ} {x : Bool} → q ≡ upTo 10 l → x ≡ has 10 l → x ≡ true → l ≡ drop (p .at) input → counted p (length input) ≡ true → p .at + length q ≤ 65536
   line-fits {l} {q} u k v n h =
       let s : length q < length l = rw u (before-shorter 10 l (sym k ∙ v)) in
       let m : length l ≡ length input - p .at = rw n (length-drop (p .at) input) in
+      let c : Counted p (length input) = counted-says p (length input) h in
       omega arith
 
   pub line-told :
       {r : Told} {y : Said} {b : Areas} {l q : List ℕ} {j : Command} {x : Bool}
       → r ≡ told (y .printed) (progress Lines (p .line + 1) (p .at + length q + 1) (y .settings))
       → line (y .printed) (state (y .settings) b) ≡ carried (p .line) j (state (p .settings) a) → j ≡ command q
-      → q ≡ upTo 10 l → x ≡ has 10 l → x ≡ true → l ≡ drop (p .at) input → p .stage ≡ Lines → Counted p input → Prints p input a r b
-  unfolding remainingAt leftAt FineAt
-  line-told {r} {y} {b} {l} {q} f o i u₀ k v n e h =
+      → q ≡ upTo 10 l → x ≡ has 10 l → x ≡ true → l ≡ drop (p .at) input → p .stage ≡ Lines → counted p (length input) ≡ true → Prints p input a r b
+  unfolding remainingAt leftAt canStandAt
+  line-told {r} {y} {b} {l} {q} f o i u₀ k v n e h₀ =
+      let h : Counted p (length input) = counted-says p (length input) h₀ in
       let rest : List ℕ = drop (p .at) input in
       let u : q ≡ upTo 10 (drop (p .at) input) = u₀ ∙ ap (λ (l : List ℕ). upTo 10 l) n in
       let here : has 10 (drop (p .at) input) ≡ true = sym (k ∙ ap (λ (l : List ℕ). has 10 l) n) ∙ v in
@@ -187,22 +221,22 @@ module _ (p : Progress) (input : List ℕ) (a : Areas) where
       rw (split-has 10 rest here)
       (lines-more (p .line) (upTo 10 rest) (split 10 (past 10 rest)) x (some-part 10 (past 10 rest)) ∙ (rw (w, behind, add-one (p .line)) refl))
       in
-      tells e f all (record { line = omega arith; place = omega arith; short = h .short }) (omega arith)
+      tells e f all (counted-is (record { line = omega arith; place = omega arith; short = h .short })) (omega arith)
 
   -- what stands behind the last byte 10
   pub rest-told :
       {r : Told} {k : List ℕ} {x : Bool}
       → r ≡ pick (eqb (length k) 0) (told (End (p .settings .«nodes_taken») (p .settings .«levels_taken»)) (progress Done (p .line) (p .at) (p .settings))) (told (Refused (p .line) 10) (progress Last (p .line) (p .at) (p .settings)))
       → x ≡ has 10 k → x ≡ false → k ≡ drop (p .at) input → p .stage ≡ Lines → Prints p input a r a
-  unfolding remainingAt leftAt FineAt restPrints linesPrint pick
+  unfolding remainingAt leftAt canStandAt restPrints linesPrint pick
   rest-told {r} f w v n e = go (drop (p .at) input) refl (split-none 10 (drop (p .at) input) (rw n at (sym w ∙ v))) (rw n at f)
     where
       go :
           (l : List ℕ) → drop (p .at) input ≡ l → split 10 (drop (p .at) input) ≡ drop (p .at) input ∷ []
           → r ≡ pick (eqb (length (drop (p .at) input)) 0) (told (End (p .settings .«nodes_taken») (p .settings .«levels_taken»)) (progress Done (p .line) (p .at) (p .settings))) (told (Refused (p .line) 10) (progress Last (p .line) (p .at) (p .settings)))
           → Prints p input a r a
-      go [] i j g = tells e (rw i at g) (rw (j, i) refl) tt (omega arith)
-      go (n ∷ l) i j g = tells e (simp (i, ne-eqb (suc (length l)) 0 (λ z. omega arith)) at g) (rw (j, i) refl) tt (omega arith)
+      go [] i j g = tells e (rw i at g) (rw (j, i) refl) refl (omega arith)
+      go (n ∷ l) i j g = tells e (simp (i, ne-eqb (suc (length l)) 0 (λ z. omega arith)) at g) (rw (j, i) refl) refl (omega arith)
 
   -- no bytes there are the end, others a line that is refused
   pub rest-end :
@@ -212,45 +246,45 @@ module _ (p : Progress) (input : List ℕ) (a : Areas) where
   rest-end y f g h = picks-yes _ y (f ∙ (simp g)) (eq-eqb _ _ h)
 
   -- where a run can stand, at the stage that it is at
-  pub fine-first : Fine p input → p .stage ≡ First → length input ≤ 65536
-  unfolding FineAt
-  fine-first h e = subst (λ (g : Stage). FineAt g p input) e h
+  pub stands-first : canStand p input ≡ true → p .stage ≡ First → length input ≤ 65536
+  unfolding canStandAt
+  stands-first h e = leb-true _ _ (subst (λ (g : Stage). canStandAt g p input ≡ true) e h)
 
-  pub fine-lines : Fine p input → p .stage ≡ Lines → Counted p input
-  unfolding FineAt
-  fine-lines h e = subst (λ (g : Stage). FineAt g p input) e h
+  pub stands-lines : canStand p input ≡ true → p .stage ≡ Lines → counted p (length input) ≡ true
+  unfolding canStandAt
+  stands-lines h e = subst (λ (g : Stage). canStandAt g p input ≡ true) e h
 
-module _ (p : Progress) (input : List ℕ) (a : Areas) (r : Told) (b : Areas) where
-  goes : (g : Stage) → goesOn g ≡ true → Prints p input a r b → NextAt g p input a r b
-  unfolding NextAt goesOn
-  goes Begin h x = x
-  goes TooLong h x = x
-  goes First h x = x
-  goes Lines h x = x
-  goes Last h x = x
-  goes Done h x = absurd (true-false (sym h))
+  -- the test of that, by the stage
+  pub stand-first : {x : Bool} → x ≡ leb (length input) 65536 → p .stage ≡ First → x ≡ canStand p input
+  unfolding canStandAt
+  stand-first f e = f ∙ ap (λ (g : Stage). canStandAt g p input) (sym e)
 
-  went : (g : Stage) → goesOn g ≡ true → NextAt g p input a r b → Prints p input a r b
-  unfolding NextAt goesOn
-  went Begin h x = x
-  went TooLong h x = x
-  went First h x = x
-  went Lines h x = x
-  went Last h x = x
-  went Done h x = absurd (true-false (sym h))
+  pub stand-lines : {x : Bool} → x ≡ counted p (length input) → p .stage ≡ Lines → x ≡ canStand p input
+  unfolding canStandAt
+  stand-lines f e = f ∙ ap (λ (g : Stage). canStandAt g p input) (sym e)
 
-  -- one thing is printed where the run goes on, and only there
-  pub next-goes : {g : Stage} → Prints p input a r b → p .stage ≡ g → goesOn g ≡ true → Next p input a r b
-  next-goes {g} x e h = goes (p .stage) (ap goesOn e ∙ h) x
+  pub stand-other : (g : Stage) → OneOf (0 ∷ 1 ∷ 4 ∷ 5 ∷ []) (tagOf the-type g) → true ≡ canStandAt g p input
+  unfolding canStandAt
+  stand-other Begin k = refl
+  stand-other TooLong k = refl
+  stand-other First k = absurd (miss (0 ∷ 1 ∷ 4 ∷ 5 ∷ []) 2 tt k)
+  stand-other Lines k = absurd (miss (0 ∷ 1 ∷ 4 ∷ 5 ∷ []) 3 tt k)
+  stand-other Last k = refl
+  stand-other Done k = refl
 
-  pub next-prints : goesOn (p .stage) ≡ true → Next p input a r b → Prints p input a r b
-  next-prints h x = went (p .stage) h x
+  -- one thing is printed where the run goes on and can stand
+  pub next-goes : {g : Stage} {r : Told} {b : Areas} → Prints p input a r b → p .stage ≡ g → goesOn g ≡ true → canStand p input ≡ true → Next p input a r b
+  next-goes x e h s =
+      record {
+        prints = λ i j. x;
+        at-end = λ i. absurd (true-false (sym (ap goesOn e ∙ h) ∙ i));
+        nowhere = λ i. absurd (true-false (sym s ∙ i));
+      }
 
--- where all is printed
-pub next-done :
-    (p : Progress) (input : List ℕ) (a : Areas) {r : Told}
-    → r ≡ told Nothing (progress Done (p .line) (p .at) (p .settings)) → p .stage ≡ Done → Next p input a r a
-unfolding NextAt
-next-done p input a {r} f e =
-    let k : r ≡ told Nothing p = f ∙ ap (λ (g : Stage). told Nothing (progress g (p .line) (p .at) (p .settings))) (sym e) in
-    subst (λ (g : Stage). NextAt g p input a r a) (sym e) (k, refl)
+  -- and nothing elsewhere
+  pub next-done : {r : Told} → r ≡ told Nothing (progress Done (p .line) (p .at) (p .settings)) → p .stage ≡ Done → Next p input a r a
+  unfolding goesOn
+  next-done f e = record { prints = λ i j. absurd (true-false (sym i ∙ ap goesOn e)); at-end = λ i. (f, refl); nowhere = λ i. (f, refl) }
+
+  pub next-nowhere : {r : Told} → r ≡ told Nothing (progress Done (p .line) (p .at) (p .settings)) → canStand p input ≡ false → Next p input a r a
+  next-nowhere f e = record { prints = λ i j. absurd (true-false (sym j ∙ e)); at-end = λ i. (f, refl); nowhere = λ i. (f, refl) }

@@ -1,10 +1,12 @@
 -- What is still to be printed where a run stands. It follows the code's stages and is tied to the run by the law that at the beginning it is all.
 -- Relies on the definition of the run.
-use Prim.Native.Nat.{ℕ, _+_, _-_, _≤_, _<_}
+use Prim.Native.Nat.{ℕ, _+_, _-_, _<_}
 use mathlib.Core.Path.{_≡_}
 use mathlib.Core.Bool.{Bool, true, false}
 use mathlib.Core.List.{List, [], _∷_}
+use lib.Dec.{leb}
 use lib.ListN.{length, drop}
+use Rattle.words.specs.Choice.{both}
 use Rattle.settings.specs.Sizes.{fresh}
 use Rattle.settings.specs.declared.Settings.{Settings}
 use Rattle.areas.specs.Memory.{Areas}
@@ -51,42 +53,6 @@ leftAt Done p input = 0
 abbrev pub left : Progress → List ℕ → ℕ
 left p input = leftAt (p .stage) p input
 
--- the next line begins within the input, and there are no more lines than bytes before it: the count of lines does not wrap
-pub record Counted (p : Progress) (input : List ℕ) : Type 0 where
-  pub line : p .line ≤ p .at + 1
-  pub place : p .at ≤ length input
-  pub short : length input ≤ 65536
-
--- where a run can stand, from its beginning on
-unfoldable pub FineAt : Stage → Progress → List ℕ → Type 0
-FineAt Begin p input = Unit
-FineAt TooLong p input = Unit
-FineAt First p input = length input ≤ 65536
-FineAt Lines p input = Counted p input
-FineAt Last p input = Unit
-FineAt Done p input = Unit
-
-abbrev pub Fine : Progress → List ℕ → Type 0
-Fine p input = FineAt (p .stage) p input
-
--- one thing is printed, and the rest remains
-pub record Prints (p : Progress) (input : List ℕ) (a : Areas) (r : Told) (b : Areas) : Type 0 where
-  pub says : remaining p input a ≡ r .printed ∷ remaining (r .progress) input b
-  pub fine : Fine (r .progress) input
-  pub less : left (r .progress) input < left p input
-
--- what is told next: where all is printed, nothing, and nothing changes
-unfoldable pub NextAt : Stage → Progress → List ℕ → Areas → Told → Areas → Type 0
-NextAt Begin p input a r b = Prints p input a r b
-NextAt TooLong p input a r b = Prints p input a r b
-NextAt First p input a r b = Prints p input a r b
-NextAt Lines p input a r b = Prints p input a r b
-NextAt Last p input a r b = Prints p input a r b
-NextAt Done p input a r b = (r ≡ told Nothing p) × (b ≡ a)
-
-abbrev pub Next : Progress → List ℕ → Areas → Told → Areas → Type 0
-Next p input a r b = NextAt (p .stage) p input a r b
-
 -- whether something is still to be printed
 unfoldable pub goesOn : Stage → Bool
 goesOn Begin = true
@@ -95,6 +61,38 @@ goesOn First = true
 goesOn Lines = true
 goesOn Last = true
 goesOn Done = false
+
+-- the next line begins within an input of n bytes that is short enough, and no more lines than bytes are before it: the count of lines does not wrap
+unfoldable pub counted : Progress → ℕ → Bool
+counted p n = both (leb n 65536) (both (leb (p .at) n) (leb (p .line) (p .at + 1)))
+
+-- where a run can stand, from its beginning on
+unfoldable pub canStandAt : Stage → Progress → List ℕ → Bool
+canStandAt Begin p input = true
+canStandAt TooLong p input = true
+canStandAt First p input = leb (length input) 65536
+canStandAt Lines p input = counted p (length input)
+canStandAt Last p input = true
+canStandAt Done p input = true
+
+abbrev pub canStand : Progress → List ℕ → Bool
+canStand p input = canStandAt (p .stage) p input
+
+-- one thing is printed, and the rest remains
+pub record Prints (p : Progress) (input : List ℕ) (a : Areas) (r : Told) (b : Areas) : Type 0 where
+  pub says : remaining p input a ≡ r .printed ∷ remaining (r .progress) input b
+  pub stands : canStand (r .progress) input ≡ true
+  pub less : left (r .progress) input < left p input
+
+-- nothing is printed, nothing changes, and the run goes no further
+abbrev pub Ends : Progress → Areas → Told → Areas → Type 0
+Ends p a r b = (r ≡ told Nothing (progress Done (p .line) (p .at) (p .settings))) × (b ≡ a)
+
+-- what is told next, of every progress: one thing where the run goes on and can stand, else nothing more
+pub record Next (p : Progress) (input : List ℕ) (a : Areas) (r : Told) (b : Areas) : Type 0 where
+  pub prints : goesOn (p .stage) ≡ true → canStand p input ≡ true → Prints p input a r b
+  pub at-end : goesOn (p .stage) ≡ false → Ends p a r b
+  pub nowhere : canStand p input ≡ false → Ends p a r b
 
 -- a thing told, and the areas then
 pub record Stop : Type 0 where

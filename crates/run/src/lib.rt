@@ -1,6 +1,7 @@
 // The run of the text program: one line carried out, and what is to be printed next.
 // Relies on text for lines, on table and lists for the operations, on printing for what is printed.
 ghost use mathlib.Core.Path.{_≡_};
+ghost use mathlib.Core.Bool.{true};
 ghost use mathlib.Core.List.{List};
 ghost use Prim.Native.Nat.{ℕ, _+_, _≤_};
 ghost use lib.Dec.{eqb, leb};
@@ -11,7 +12,7 @@ ghost use Rattle.record.specs.Layout.{headAt};
 ghost use Rattle.rules.specs.Operations.{result, refused, opening, start, turn};
 ghost use Rattle.rules.specs.Lists.{state};
 ghost use Rattle.run.specs.Program.{line, startLine, turnPrints, turnLine, carried, firstLine};
-ghost use Rattle.run.specs.Remaining.{progress, told, begun, Counted, Fine, Prints, Next, goesOn};
+ghost use Rattle.run.specs.Remaining.{progress, told, begun, counted, canStand, Prints, Next, goesOn};
 use lists::turn;
 use printing::Printed;
 use record::Answer;
@@ -323,7 +324,7 @@ fn next_lines(
     workers: &mut [u32],
 ) -> Told
     requires { ⌜ p .stage ≡ Stage.Lines ⌝ }
-    requires { ⌜ Counted p (now input) ⌝ }
+    requires { ⌜ counted p (length (now input)) ≡ true ⌝ }
     ensures { λ r. ⌜ Prints p (now (input .entry)) (areas (now (nodes .entry)) (now (levels .entry)) (now (workers .entry))) r (areas (now (nodes .exit)) (now (levels .exit)) (now (workers .exit))) ⌝ }
 {
     let at = p.at;
@@ -338,15 +339,39 @@ fn next_lines(
     }
 }
 
-// What is printed next, and where the run stands then.
-pub fn next(
+// Whether the next line begins within an input of n bytes that is short enough, and no more lines than bytes are before it.
+fn counted(p: Progress, n: usize) -> bool
+    ensures { λ r. ⌜ r ≡ counted p n ⌝ }
+{
+    if n <= 65536 {
+        if p.at <= n {
+            return p.line as usize <= p.at + 1;
+        }
+    }
+    false
+}
+
+// Whether a run can stand there.
+fn can_stand(p: Progress, input: &[u8]) -> bool
+    ensures { λ r. ⌜ r ≡ canStand p (now (input .entry)) ⌝ }
+{
+    let g = p.stage;
+    match g {
+        Stage::First => input.len() <= 65536,
+        Stage::Lines => counted(p, input.len()),
+        _ => true,
+    }
+}
+
+// What is printed next where a run can stand, stage by stage.
+fn advance(
     p: Progress,
     input: &[u8],
     nodes: &mut [u32],
     levels: &mut [u32],
     workers: &mut [u32],
 ) -> Told
-    requires { ⌜ Fine p (now input) ⌝ }
+    requires { ⌜ canStand p (now input) ≡ true ⌝ }
     ensures { λ r. ⌜ Next p (now (input .entry)) (areas (now (nodes .entry)) (now (levels .entry)) (now (workers .entry))) r (areas (now (nodes .exit)) (now (levels .exit)) (now (workers .exit))) ⌝ }
 {
     let g = p.stage;
@@ -357,5 +382,22 @@ pub fn next(
         Stage::Lines => next_lines(p, input, nodes, levels, workers),
         Stage::Last => next_last(p),
         Stage::Done => tell(Printed::Nothing, Stage::Done, p),
+    }
+}
+
+// What is printed next, and where the run stands then. A progress that no run can have prints nothing and is done.
+pub fn next(
+    p: Progress,
+    input: &[u8],
+    nodes: &mut [u32],
+    levels: &mut [u32],
+    workers: &mut [u32],
+) -> Told
+    ensures { λ r. ⌜ Next p (now (input .entry)) (areas (now (nodes .entry)) (now (levels .entry)) (now (workers .entry))) r (areas (now (nodes .exit)) (now (levels .exit)) (now (workers .exit))) ⌝ }
+{
+    if can_stand(p, input) {
+        advance(p, input, nodes, levels, workers)
+    } else {
+        tell(Printed::Nothing, Stage::Done, p)
     }
 }

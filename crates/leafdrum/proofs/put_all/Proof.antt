@@ -2,16 +2,15 @@
 -- Relies on run: each thing printed takes from what is left.
 use mathlib.Core.Path.{_≡_}
 use lib.ListN.{length}
-use Rattle.run.specs.Remaining.{Fine, left}
-use Rattle.run.proofs.Run.{begin-fine, run-fine, run-less}
+use Rattle.run.specs.Remaining.{left}
+use Rattle.run.proofs.Run.{run-less}
 use borrow.Author.Needs.{needs}
 use Rattle.leafdrum.proofs.put_all.Statement.{statement}
 use Rattle.leafdrum.proofs.put_all.Tie as tie
 
 abbrev Inv-loop : tie.InvT-loop
 Inv-loop input nodes₀ levels₀ workers₀ p₀ nodes levels workers p =
-    Fine p input
-    × (length nodes ≡ length nodes₀)
+    (length nodes ≡ length nodes₀)
     × (length levels ≡ length levels₀)
     × (length workers ≡ length workers₀)
 
@@ -22,7 +21,7 @@ begin-requires : tie.Need-begin-requires Inv-loop μ-loop
 begin-requires c κs = search needs
 
 loop-holds : tie.Need-loop-holds Inv-loop μ-loop
-loop-holds c = search (needs, begin-fine)
+loop-holds c = search needs
 
 goes-on-requires : tie.Need-goes-on-requires Inv-loop μ-loop
 goes-on-requires c κs = search needs
@@ -49,7 +48,7 @@ loop-less : tie.Need-loop-less Inv-loop μ-loop
 loop-less c = search (needs, run-less)
 
 loop-again : tie.Need-loop-again Inv-loop μ-loop
-loop-again c = search (needs, run-fine)
+loop-again c = search needs
 
 same-length-4 : tie.Need-same-length-4 Inv-loop μ-loop
 same-length-4 c = search needs

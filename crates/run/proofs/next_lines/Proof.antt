@@ -1,12 +1,12 @@
 -- `run::next_lines` meets its contract.
 -- Relies on the ways through a stage.
 use borrow.Author.Needs.{needs}
-use Rattle.run.proofs.Stages.{line-line, line-fits, line-told, rest-told}
+use Rattle.run.proofs.Stages.{line-place, line-line, line-fits, line-told, rest-told}
 use Rattle.run.proofs.next_lines.Statement.{statement}
 use Rattle.run.proofs.next_lines.Tie as tie
 
 rest-of-requires : tie.Need-rest-of-requires
-rest-of-requires c κs = search needs
+rest-of-requires c κs = search (needs, line-place)
 
 has-requires : tie.Need-has-requires
 has-requires c κs = search needs
