@@ -2,7 +2,9 @@
 // Relies on run for what is printed, on printing for its bytes, on io for reading and writing.
 ghost use mathlib.Core.Path.{_≡_};
 ghost use lib.ListN.{take};
+ghost use Rattle.areas.specs.Memory.{areas};
 ghost use Rattle.printing.specs.Printing.{bytesOf};
+ghost use Rattle.run.specs.Program.{lent};
 use printing::Printed;
 use printing::spell;
 use run::begin;
@@ -23,8 +25,10 @@ fn put_out(x: Printed) -> bool {
     put_bytes(x, &out, n)
 }
 
-// Everything that is printed for an input, one thing after the other, until writing fails.
-fn put_all(input: &[u8], nodes: &mut [u32], levels: &mut [u32], workers: &mut [u32]) {
+// Everything that is printed for an input, one thing after the other, until writing fails. The areas are those that `run-writes` speaks of.
+fn put_all(input: &[u8], nodes: &mut [u32], levels: &mut [u32], workers: &mut [u32])
+    requires { ⌜ areas (now nodes) (now levels) (now workers) ≡ lent ⌝ }
+{
     let mut p = begin();
     while goes_on(p) {
         let t = next(p, input, nodes, levels, workers);
