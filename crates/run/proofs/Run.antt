@@ -12,8 +12,9 @@ use Rattle.run.specs.declared.Stage.{Stage}
 use Rattle.run.specs.declared.Stage.the-variants.{Begin, TooLong, First, Lines, Last, Done}
 use Rattle.run.specs.declared.Progress.{Progress}
 use Rattle.run.specs.declared.Told.{Told}
-use Rattle.run.specs.Program.{prints, spelled, lent, output}
-use Rattle.run.specs.Remaining.{progress, told, begun, remainingAt, remaining, leftAt, left, canStandAt, canStand, Ends, Next, goesOn, Stop, Runs, printedBy}
+use Rattle.run.specs.Program.{prints, spelled, lent}
+use Rattle.run.specs.Remaining.{begun, remainingAt, remaining, leftAt, left, canStandAt, canStand, Next, goesOn}
+use Rattle.run.specs.Running.{Stop, Runs, printedBy, RunPrints, RunWrites}
 
 -- at the beginning all is still to be printed
 pub begins : (input : List ℕ) (a : Areas) → remaining begun input a ≡ prints input a
@@ -43,11 +44,11 @@ tells-all (t ∷ ts) p input a s h =
     let x = h .1 .prints (h .0) s in
     ap (λ (l : List Printed). t .told .printed ∷ l) (tells-all ts (t .told .progress) input (t .areas) (x .stands) (h .2)) ∙ sym (x .says)
 
-pub run-prints : (input : List ℕ) (a : Areas) (ts : List Stop) → Runs begun input a ts → printedBy ts ≡ prints input a
+pub run-prints : RunPrints
 run-prints input a ts h = tells-all ts begun input a (begin-stands input) h ∙ begins input a
 
 -- the bytes that are written
-pub run-writes : (input : List ℕ) (ts : List Stop) → Runs begun input lent ts → spelled (printedBy ts) ≡ output input
+pub run-writes : RunWrites
 run-writes input ts h = ap spelled (run-prints input lent ts h)
 
 -- where the run goes on, something is left

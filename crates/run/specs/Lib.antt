@@ -2,3 +2,4 @@
 -- Relies on text and on rules.
 pub mod Program
 pub mod Remaining
+pub mod Running

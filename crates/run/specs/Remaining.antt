@@ -1,4 +1,4 @@
--- What is still to be printed where a run stands. It follows the code's stages and is tied to the run by the law that at the beginning it is all.
+-- The steps of the text program's loop: where a run begins, what is still to be printed where it stands, and what `next` tells of every progress.
 -- Relies on the definition of the run.
 use Prim.Native.Nat.{ℕ, _+_, _-_, _<_}
 use mathlib.Core.Path.{_≡_}
@@ -20,16 +20,19 @@ use Rattle.run.specs.declared.Progress.{Progress}
 use Rattle.run.specs.declared.Told.{Told}
 use Rattle.run.specs.Program.{prints, inputPrints, linesPrint, endLine}
 
+-- where a run stands, by its parts: the stage, the number of the next line, the place of its first byte, the table's settings
 abbrev pub progress : Stage → ℕ → ℕ → Settings → Progress
 progress g n k s = record { stage = g; line = n; at = k; settings = s }
 
+-- what is printed next, and where the run stands then
 abbrev pub told : Printed → Progress → Told
 told x p = record { printed = x; progress = p }
 
--- where a run begins
+-- where a run begins: nothing is printed yet, line 1 comes next
 abbrev pub begun : Progress
 begun = progress Begin 1 0 (fresh 0 0 0)
 
+-- what is still to be printed, by the stage. At the beginning it is all.
 unfoldable pub remainingAt : Stage → Progress → List ℕ → Areas → List Printed
 remainingAt Begin p input a = prints input a
 remainingAt TooLong p input a = Refused 0 10 ∷ []
@@ -38,6 +41,7 @@ remainingAt Lines p input a = linesPrint (p .line) (split lineEnd (drop (p .at) 
 remainingAt Last p input a = endLine (state (p .settings) a) ∷ []
 remainingAt Done p input a = []
 
+-- what is still to be printed where a run stands, over the areas as they are then
 abbrev pub remaining : Progress → List ℕ → Areas → List Printed
 remaining p input a = remainingAt (p .stage) p input a
 
@@ -50,6 +54,7 @@ leftAt Lines p input = (length input - p .at) + 2
 leftAt Last p input = 1
 leftAt Done p input = 0
 
+-- how much is left where a run stands
 abbrev pub left : Progress → List ℕ → ℕ
 left p input = leftAt (p .stage) p input
 
@@ -66,7 +71,7 @@ goesOn Done = false
 unfoldable pub counted : Progress → ℕ → Bool
 counted p n = both (leb n 65536) (both (leb (p .at) n) (leb (p .line) (p .at + 1)))
 
--- where a run can stand, from its beginning on
+-- where a run can stand, from its beginning on: an input that is too long has no lines to read
 unfoldable pub canStandAt : Stage → Progress → List ℕ → Bool
 canStandAt Begin p input = true
 canStandAt TooLong p input = true
@@ -75,6 +80,7 @@ canStandAt Lines p input = counted p (length input)
 canStandAt Last p input = true
 canStandAt Done p input = true
 
+-- whether a run over this input can stand there
 abbrev pub canStand : Progress → List ℕ → Bool
 canStand p input = canStandAt (p .stage) p input
 
@@ -93,18 +99,3 @@ pub record Next (p : Progress) (input : List ℕ) (a : Areas) (r : Told) (b : Ar
   pub prints : goesOn (p .stage) ≡ true → canStand p input ≡ true → Prints p input a r b
   pub at-end : goesOn (p .stage) ≡ false → Ends p a r b
   pub nowhere : canStand p input ≡ false → Ends p a r b
-
--- a thing told, and the areas then
-pub record Stop : Type 0 where
-  pub told : Told
-  pub areas : Areas
-
--- what is told, one after the other, until the run goes no further
-unfoldable pub Runs : Progress → List ℕ → Areas → List Stop → Type 0
-Runs p input a [] = goesOn (p .stage) ≡ false
-Runs p input a (t ∷ ts) =
-    (goesOn (p .stage) ≡ true) × Next p input a (t .told) (t .areas) × Runs (t .told .progress) input (t .areas) ts
-
-unfoldable pub printedBy : List Stop → List Printed
-printedBy [] = []
-printedBy (t ∷ ts) = t .told .printed ∷ printedBy ts
