@@ -3,3 +3,4 @@
 pub mod Carried
 pub mod Stages
 pub mod Run
+pub mod Unread

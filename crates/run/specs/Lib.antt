@@ -3,3 +3,4 @@
 pub mod Program
 pub mod Remaining
 pub mod Running
+pub mod Unread
