@@ -19,9 +19,9 @@ use Rattle.rules.specs.Operations.{reply, question2Of, turn}
 use Rattle.rules.specs.Lists.{State, state, after, Visit, visit, turnAt, visits, endState, metSix, counts, turnsDone, listNumber, turnsResult}
 use Rattle.rules.proofs.OneTurn.{six-leaves, eight-leaves}
 use Rattle.rules.proofs.Visits.{six-uncounted}
+use Rattle.rules.proofs.Three.{Three, three-stays, below-workers}
 use Rattle.rules.proofs.Entries.{open-8, eight-uncounted, open-counted, no-six, is-six, visits-six, visits-eight, visits-other}
 use Rattle.lists.specs.Cut.{Run, run, ranBy, ranEntry, ranList, ranResult}
-use Rattle.turns.proofs.Three.{Three, three-stays}
 
 -- a list that has met 6, or whose limit is used up, goes no further
 pub stopped : (w : ℕ) (l : List ℕ) (u : Run) → u .left ≡ 0 → ranList w l u ≡ u
@@ -112,10 +112,6 @@ agrees-step w i n l x y q skipped done = by (ℕ-discrete (turn w (x .settings) 
     by (no h) (no g) =
         rw (visits-other w i n l x h g, ran-step w i l (run 0 x (suc n)) (run 0 (after (turn w (x .settings) i (x .areas))) n) (entry-other w i n x h g))
         (agrees-more w i x n (suc n) 1 (omega arith) (no-six w x i h) (pick-true _ _ _ (open-counted w x i (open-8 w x i (y .one) (y .two) (y .three) q h g) h)) done)
-
-below-workers : {w workers : ℕ} {x : State} (i : ℕ) → Three w workers x → ltb i workers ≡ true → question4 (x .settings) i ≡ true
-unfolding question4
-below-workers i y e = rw (y .workers-is) e
 
 -- the code's end of a list agrees with the entries reached
 pub agrees : (w : ℕ) {workers : ℕ} (l : List ℕ) (n : ℕ) (x : State) → Three w workers x → every (λ i. ltb i workers) l ≡ true → Agrees w n x (visits w l n x) (ranList w l (run 0 x n))

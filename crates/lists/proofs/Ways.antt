@@ -26,6 +26,8 @@ use Rattle.rules.specs.Asked.{question4, question4All, question7, question8}
 use Rattle.rules.specs.Operations.{Result, result, reply, refused, unlessRefused, turn}
 use Rattle.rules.specs.Lists.{State, state, turns, turnsResult, visits, listQuestions}
 use Rattle.rules.proofs.OneTurn.{six-leaves}
+use Rattle.rules.proofs.Invariant.{SameSizes}
+use Rattle.rules.proofs.Three.{Three, three-stays, sizes-stay}
 use Rattle.rules.proofs.Entries.{eight-idle}
 use Rattle.table.specs.Cut.{firstFour}
 use Rattle.turns.specs.Cut.{turnHere, doneOf, Did, did, didBy, didHere}
@@ -33,7 +35,6 @@ use Rattle.turns.specs.declared.Done.{Done}
 use Rattle.turns.proofs.Ways.{three-of, three-inside, here-idle, here-turn}
 use Rattle.lists.specs.declared.Tally.{Tally}
 use Rattle.lists.specs.Cut.{Run, run, countedBy, ranOf, tally, idleTally, openTally, overOf, ranBy, ranEntry, ranList, ranResult}
-use Rattle.turns.proofs.Three.{Three, three-stays, SameSizes, sizes-stay}
 use Rattle.lists.proofs.ListCut.{stopped, refused-on, list-cut}
 
 -- questions 1 to 3 as the code asks them
@@ -163,7 +164,7 @@ module _ (w : ℕ) (s : Settings) (t : Tally) (i : ℕ) (n g k : List ℕ) (z : 
           by-six y (ap (λ (v : Tally). ranOf s v b) (f ∙ pick-true _ _ _ (eq-eqb _ _ c)) ∙ ap (λ (v : Areas). run 6 (state now v) (t .left)) a)
       by (no y) =
           let c : d .number ≡ its .reply .number = ap (λ (v : Did). v .done .number) did-is in
-          let q = same-sizes s (its .reply .settings) _ _ (sizes-stay w (state now (areas n g k)) i (three-of w now n g k r)) in
+          let q = same-sizes s (its .reply .settings) _ _ (sizes-stay w (state now (areas n g k)) i) in
           ap (λ (v : Tally). ranOf s v b) (f ∙ pick-false _ _ _ (ne-eqb (d .number) 6 (λ v. y (sym c ∙ v))))
           ∙ ap (λ (v : Did). run 0 (state (counted s (v .done .«nodes_taken») (v .done .«levels_taken»)) (v .areas)) (t .left - 1)) did-is
           ∙ ap (λ (v : Settings). run 0 (state v (its .areas)) (t .left - 1)) (counted-is s (its .reply .settings) q)

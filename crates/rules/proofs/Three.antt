@@ -33,7 +33,9 @@ use Rattle.rules.specs.Refusals.{AllYes}
 use Rattle.rules.specs.Access.{Access}
 use Rattle.rules.specs.Access as access
 use Rattle.rules.proofs.OneTurn.{done-number, nine-is-full, turn-refused, refuses-turn}
+use Rattle.rules.proofs.Invariant.{SameSizes}
 use Rattle.rules.proofs.ExcessWords.{same-node, same-level}
+use Rattle.rules.proofs.ExcessActs.{sizes-same}
 use Rattle.rules.proofs.Access.{one-access}
 
 -- the questions, and how many workers there are
@@ -163,12 +165,20 @@ module _ (w : ℕ) (x : State) (i : ℕ) where
       (λ e. length-store w _ i (x .areas .workers))
       (λ e. pick-both (λ (r : Result). length (r .areas .workers) ≡ length (x .areas .workers)) _ (λ z. length-store w _ i (x .areas .workers)) (λ z. refl))
 
+  pub sizes-stay : SameSizes (x .settings) (its .reply .settings)
+  unfolding tookNode tookLevel
+  sizes-stay =
+      settings-by (SameSizes (x .settings)) (sizes-same (x .settings))
+      (record { workers-is = refl; limit-is = refl; nodes-is = refl })
+      (record { workers-is = refl; limit-is = refl; nodes-is = refl })
+      (one-access w (x .settings) i (x .areas))
+
   pub three-stays : {workers : ℕ} → Three w workers x → Three w workers (after its)
   unfolding question1 question2 levelCount tookNode tookLevel
   three-stays {workers} y =
       let A = one-access w (x .settings) i (x .areas) in
       record {
-        workers-is = settings-by (λ s. s .workers ≡ workers) (y .workers-is) (y .workers-is) (y .workers-is) A;
+        workers-is = sizes-stay .workers-is ∙ y .workers-is;
         one = settings-by (λ s. question1 s ≡ true) (y .one) (y .one) (y .one) A;
         two = rw (lengths-by A .0, lengths-by A .1, workers-length) (settings-by (λ s. question2Of w s (x .areas) ≡ true) (y .two) (y .two) (y .two) A);
         three = counters-stay (y .three);

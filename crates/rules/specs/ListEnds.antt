@@ -23,13 +23,16 @@ AtEach w l limit x P = (before : List Visit) (v : Visit) (more : List Visit) →
 pub record ListEnds (w : ℕ) (s : Settings) (l : List ℕ) (limit : ℕ) (a : Areas) : Type 0 where
   -- the entries that are not reached
   pub rest : List ℕ
+  -- "the entries reached" are the list's first ones
   -- excludes: a list that leaves an entry out, or takes its entries in another order
   pub beginning : l ≡ workersAt (visits w l limit (state s a)) ++ rest
-  -- each entry finds what those before it left
+  -- each entry finds what those before it left: "the turns before that stay, in the settings also"
   -- excludes: a list whose turns all begin at the state that it was handed
   pub finds : AtEach w l limit (state s a) (λ before v. v .before ≡ endState w (state s a) before)
+  -- no more turns are done than the limit: "Limit 0 does none."
   -- excludes: idle entries counted as turns done
   pub within : turns w s l limit a .reply .turns ≤ limit
+  -- "It ends at the list's end, once as many turns are done as the limit, or at a 6, which it gives too"
   -- excludes: idle entries that use up the limit; a list that stops at a "full"
   pub ends : (rest ≡ []) ⊎ ((turns w s l limit a .reply .turns ≡ limit) ⊎ (turns w s l limit a .reply .number ≡ 6))
   -- an entry's turn is done, ends "full", is skipped or meets 6

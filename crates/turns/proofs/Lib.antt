@@ -3,7 +3,5 @@
 pub mod Finish
 pub mod HeadKept
 pub mod OneCut
-pub mod Kept
-pub mod Three
 pub mod Ways
 pub mod Moves

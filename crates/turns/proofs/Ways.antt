@@ -33,7 +33,7 @@ use Rattle.table.proofs.Questions.{both-zero}
 use Rattle.turns.specs.declared.Done.{Done}
 use Rattle.turns.specs.Cut.{triedOf, finished, turnHere, doneOf, did, didBy, didHere}
 use Rattle.turns.proofs.OneCut.{turn-cut}
-use Rattle.turns.proofs.Three.{Three}
+use Rattle.rules.proofs.Three.{Three}
 
 -- questions 1 to 3 as the code asks them
 pub three-of : (w : ℕ) (s : Settings) (n g k : List ℕ) → firstThree w s (length n) (length g) (length k) ≡ 0 → Three w (s .workers) (state s (areas n g k))

@@ -9,7 +9,7 @@ use Rattle.words.specs.Choice.{every}
 use Rattle.areas.specs.Memory.{areas}
 use Rattle.rules.specs.Lists.{state}
 use Rattle.lists.specs.Cut.{run, countedBy, ranOf, ranList}
-use Rattle.turns.proofs.Three.{Three}
+use Rattle.rules.proofs.Three.{Three}
 use Rattle.lists.proofs.Ways.{begin-three, begin-list, goes-left, goes-zero, of-three, entry-below, entry-keeps, list-more, list-all, list-over}
 use borrow.Author.Needs.{needs}
 use Rattle.lists.proofs.run_list.Statement.{statement}
