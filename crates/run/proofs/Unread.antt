@@ -1,6 +1,6 @@
 -- Question 10 in exactly its own case, over the whole run.
--- Relies on rules: no operation is refused by 10.
-use Prim.Native.Nat.{ℕ, suc}
+-- Relies on the operations' numbers: none is 10.
+use Prim.Native.Nat.{ℕ, suc, _≤_}
 use mathlib.Core.Path.{_≡_, refl, ap}
 use mathlib.Core.Logic.{_≢_}
 use mathlib.Core.Bool.{Bool, true, false}
@@ -9,18 +9,14 @@ use native.Mathlib.Omega.{arith}
 use lib.Dec.{eqb, leb}
 use lib.ListN.{length}
 use borrow.Author.Tests.{ne-eqb}
-use Rattle.words.specs.Choice.{pick, both, every}
+use Rattle.words.specs.Choice.{pick}
 use Rattle.words.proofs.Choice.{pick-both, pick-false}
 use Rattle.settings.specs.Sizes.{fresh}
-use Rattle.settings.specs.declared.Settings.{Settings}
 use Rattle.areas.specs.Memory.{Areas}
 use Rattle.record.specs.declared.Answer.{Answer}
 use Rattle.record.specs.declared.Answer.the-variants as answer
-use Rattle.rules.specs.Operations.{Result, opening, openingQuestions, start, startQuestions, turn, turnQuestions}
+use Rattle.rules.specs.Operations.{Result}
 use Rattle.rules.specs.Lists.{State, after}
-use Rattle.rules.proofs.Questions.{never-first}
-use Rattle.rules.proofs.OneTurn.{refuses-turn}
-use Rattle.rules.proofs.Refused.{refuses-opening, refuses-start}
 use Rattle.text.specs.Parts.{lineEnd, split}
 use Rattle.text.specs.Commands.{command}
 use Rattle.text.specs.declared.Command.{Command}
@@ -29,20 +25,11 @@ use Rattle.printing.specs.declared.Printed.{Printed}
 use Rattle.printing.specs.declared.Printed.the-variants.{Nothing, Refused}
 use Rattle.run.specs.Program.{width, mostNodes, startLine, turnPrints, turnLine, carried, firstLine, restPrints, linesPrint, openedPrints, inputPrints, prints}
 use Rattle.run.specs.Unread.{tenLine, tenLines, readsFirst, readsLater, unreadRest, unreadFrom, unreadInput, unreadLines, TenExactly}
+use Rattle.run.proofs.Given.{opening-gives, start-gives, turn-gives}
 
--- no operation is refused by 10
-start-not-ten : (w : ℕ) (s : Settings) (i row column : ℕ) (a : Areas) → start w s i row column a .reply .number ≢ 10
-unfolding startQuestions every both
-start-not-ten w s i row column a e =
-    never-first {n = 10} {qs = startQuestions w s i row column a} refl (refuses-start w s i row column a .numbered .refusal 10 (λ z. omega arith) .0 e)
-
-turn-not-ten : (w : ℕ) (s : Settings) (i : ℕ) (a : Areas) → turn w s i a .reply .number ≢ 10
-unfolding turnQuestions every both
-turn-not-ten w s i a e = never-first {n = 10} {qs = turnQuestions w s i a} refl (refuses-turn w s i a .numbered .refusal 10 (λ z. omega arith) .0 e)
-
-opening-not-ten : (w : ℕ) (s : Settings) (a : Areas) → opening w s a .reply .number ≢ 10
-unfolding openingQuestions every both
-opening-not-ten w s a e = never-first {n = 10} {qs = openingQuestions w s a} refl (refuses-opening w s a .numbered .refusal 10 (λ z. omega arith) .0 e)
+-- an operation gives at most 9
+nine : {n : ℕ} → n ≤ 9 → n ≢ 10
+nine h e = omega arith
 
 -- a line that is refused by another number
 not-ten : (n number : ℕ) → number ≢ 10 → tenLine (Refused n number) ≡ []
@@ -65,8 +52,8 @@ turn-prints n i pixel number answer.Open h = refl
 carried-ten : (n : ℕ) (c : Command) (x : State) → tenLine (carried n c x .printed) ≡ pick (readsLater c) [] (n ∷ [])
 unfolding tenLine carried startLine turnLine readsLater pick
 carried-ten n (Sizes workers limit nodes) x = refl
-carried-ten n (Starts i row column) x = start-prints n _ (start-not-ten width (x .settings) i row column (x .areas))
-carried-ten n (Turns i) x = turn-prints n i _ _ _ (turn-not-ten width (x .settings) i (x .areas))
+carried-ten n (Starts i row column) x = start-prints n _ (nine (start-gives width (x .settings) i row column (x .areas)))
+carried-ten n (Turns i) x = turn-prints n i _ _ _ (nine (turn-gives width (x .settings) i (x .areas)))
 carried-ten n Unread x = refl
 
 rest-ten : (n : ℕ) (p : List ℕ) (x : State) → tenLines (restPrints n p x) ≡ unreadRest n p
@@ -93,7 +80,7 @@ opened-ten r ps h = go (eqb (r .reply .number) 0) refl
 sizes-not-ten : (workers limit nodes : ℕ) (a : Areas) → firstLine (Sizes workers limit nodes) a .reply .number ≢ 10
 unfolding firstLine
 sizes-not-ten workers limit nodes a =
-    pick-both (λ (r : Result). r .reply .number ≢ 10) (leb nodes mostNodes) (λ e. opening-not-ten width (fresh workers limit nodes) a) (λ e z. omega arith)
+    pick-both (λ (r : Result). r .reply .number ≢ 10) (leb nodes mostNodes) (λ e. nine (opening-gives width (fresh workers limit nodes) a)) (λ e z. omega arith)
 
 first-ten : (c : Command) (ps : List (List ℕ)) (a : Areas) → tenLines (openedPrints (firstLine c a) ps) ≡ pick (readsFirst c) (pick (eqb (firstLine c a .reply .number) 0) (unreadFrom 2 ps) []) (1 ∷ [])
 unfolding readsFirst tenLines tenLine openedPrints firstLine pick

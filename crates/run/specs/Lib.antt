@@ -4,3 +4,4 @@ pub mod Program
 pub mod Remaining
 pub mod Running
 pub mod Unread
+pub mod Numbers

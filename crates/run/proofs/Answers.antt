@@ -1,0 +1,148 @@
+-- What a turn answers, over settings and memory of any content: a node that is taken, of a worker below workers, whose call's pixel fits.
+-- Relies on the definitions of the turns and of question 6.
+use Prim.Native.Nat.{ℕ, _≤_, _<_}
+use mathlib.Core.Path.{_≡_, sym, _∙_}
+use mathlib.Core.Logic.{_≢_}
+use mathlib.Core.Bool.{Bool, true, false}
+use mathlib.Core.List.{List, []}
+use native.Mathlib.Omega.{arith}
+use lib.Dec.{eqb, leb}
+use borrow.Author.Tests.{ltb-true, leb-true, not-true}
+use Rattle.words.specs.Choice.{both, firstNo}
+use Rattle.words.specs.Digits.{maxPixel}
+use Rattle.words.proofs.Choice.{true-false, pick-both, pick-true, both-left, both-right}
+use Rattle.settings.specs.Sizes.{question1, question3}
+use Rattle.settings.specs.declared.Settings.{Settings}
+use Rattle.areas.specs.Memory.{Areas, Memory, isNode, nodeTaken}
+use Rattle.areas.specs.declared.Cell.{Cell}
+use Rattle.record.specs.declared.Answer.{Answer}
+use Rattle.record.specs.declared.Answer.the-variants.{Nothing, New, Found, Full, Open}
+use Rattle.record.specs.declared.Kind.{Kind}
+use Rattle.record.specs.declared.Kind.the-variants.{Idle, Look, Take, Put, Read, Tail, TakeTail, Append, Level, Close, Follow, ChainHead, ChainNext, SetNext, SetLook, SetPut, SetRead, SetTail, SetAppend, SetLevel, SetClose, SetFollow, MoveEnd, Unknown}
+use Rattle.record.specs.declared.Head.{Head}
+use Rattle.record.specs.declared.Move.{Move}
+use Rattle.record.specs.Kinds.{kindNo}
+use Rattle.record.specs.Layout.{Record}
+use Rattle.record.specs.Fits.{callFits, fitsBy, fits}
+use Rattle.rules.specs.Steps.{Step, expected, withNode, takeNode, withLevel, takeLevel, closed}
+use Rattle.rules.specs.Searching as searching
+use Rattle.rules.specs.Moving as moving
+use Rattle.rules.specs.Acts.{actBy, act}
+use Rattle.rules.specs.Asked.{question4, inHand, pixelFits, comparesRef, puts, reads, appends, follows, readsBy, question6, question7, question8}
+use Rattle.rules.specs.Operations.{recordOf, memoryOf, turnQuestions}
+use Rattle.rules.proofs.Questions.{first-later}
+
+-- the node of an answer is below n
+unfoldable pub NodeBelow : ℕ → Answer → Type 0
+NodeBelow n Nothing = Unit
+NodeBelow n (New i) = i < n
+NodeBelow n (Found i) = i < n
+NodeBelow n Full = Unit
+NodeBelow n Open = Unit
+
+module _ (w : ℕ) (s : Settings) (h : Head) (m : Memory) where
+  abbrev Below : Step → Type 0
+  Below t = NodeBelow (s .«nodes_taken») (t .answer)
+
+  -- Put, Append: the node in hand is taken
+  placed-below : (k : Kind) (x : Cell) → inHand (h .«held_node») (s .«nodes_taken») ≡ true → Below (searching.placed w k s h x m)
+  unfolding NodeBelow searching.placed inHand
+  placed-below k x y =
+      let l : 1 ≤ h .«held_node» = leb-true _ _ (both-left _ _ y) in
+      let u : h .«held_node» ≤ s .«nodes_taken» = leb-true _ _ (both-right (leb 1 (h .«held_node»)) _ y) in
+      pick-both Below (expected h _) (λ e. omega arith) (λ e. tt)
+
+  -- Read, Follow: the node met is taken
+  met-below : (c g word : ℕ) → comparesRef s word (m .nodes) ≡ true → Below (searching.met s h c g word m)
+  unfolding NodeBelow searching.met searching.metNode comparesRef pixelFits nodeTaken
+  met-below c g word y =
+      pick-both Below (isNode word)
+      (λ e. pick-both Below (eqb _ (h .pixel)) (λ q. ltb-true _ _ (both-left _ _ (sym (pick-true _ _ _ e) ∙ y))) (λ q. tt))
+      (λ e. tt)
+
+  take-below : (k : Kind) → Below (takeNode k s h m)
+  unfolding NodeBelow takeNode withNode
+  take-below k = pick-both Below (eqb (h .«held_node») 0) (λ e. tt) (λ e. tt)
+
+  level-below : (k : Kind) (ms : List Move) → Below (takeLevel w k s h ms m)
+  unfolding NodeBelow takeLevel withLevel
+  level-below k ms = pick-both Below (eqb (h .«held_level») 0) (λ e. tt) (λ e. tt)
+
+  closed-below : (k : Kind) (ms : List Move) → Below (closed w k s h ms m)
+  unfolding NodeBelow closed
+  closed-below k ms = pick-both Below (expected h _) (λ e. tt) (λ e. tt)
+
+  chain-below : (v : Move) (os : List Move) (word : ℕ) → Below (moving.chainWord s h v os word m)
+  unfolding NodeBelow moving.chainWord moving.setLast
+  chain-below v os word = pick-both Below (isNode word) (λ e. tt) (λ e. tt)
+
+  set-below : (k : Kind) (v : Move) (os : List Move) (x : Cell) → Below (moving.setNode w k s h v os x m)
+  unfolding NodeBelow moving.setNode moving.setLast
+  set-below k v os x = pick-both Below (expected h _) (λ e. tt) (λ e. tt)
+
+  -- by kind
+  kind-below : (k : Kind) (ms : List Move) → readsBy k w s h ms m ≡ true → Below (actBy k w s h ms m)
+  unfolding NodeBelow actBy readsBy puts reads appends follows searching.look searching.take searching.put searching.read searching.readWord searching.tail searching.takeTail searching.append searching.level searching.close searching.follow searching.followWord moving.chainHead moving.chainNext moving.setNext moving.setLook moving.setPut moving.setRead moving.setReadWord moving.setMet moving.setTail moving.setAppend moving.setLevel moving.setClose moving.setFollow moving.setFollowWord moving.moveEnd
+  kind-below Idle ms y = tt
+  kind-below Look ms y = tt
+  kind-below Take ms y = take-below Put
+  kind-below Put ms y = placed-below Read _ (both-right _ _ y)
+  kind-below Read ms y = met-below 1 _ _ (both-right _ _ y)
+  kind-below Tail ms y = tt
+  kind-below TakeTail ms y = take-below Append
+  kind-below Append ms y = placed-below Follow _ (both-right _ _ y)
+  kind-below Level ms y = level-below Close []
+  kind-below Close ms y = closed-below Follow []
+  kind-below Follow ms y = met-below _ _ _ (both-left _ _ (both-right _ _ y))
+  kind-below ChainHead ms y = chain-below _ _ _
+  kind-below ChainNext ms y = chain-below _ _ _
+  kind-below SetNext ms y = tt
+  kind-below SetLook ms y = tt
+  kind-below SetPut ms y = set-below SetRead _ _ _
+  kind-below SetRead ms y = tt
+  kind-below SetTail ms y = tt
+  kind-below SetAppend ms y = set-below SetFollow _ _ _
+  kind-below SetLevel ms y = level-below SetClose _
+  kind-below SetClose ms y = closed-below SetFollow _
+  kind-below SetFollow ms y = tt
+  kind-below MoveEnd ms y = tt
+  kind-below Unknown ms y = tt
+
+-- the call of a worker that is not idle has a pixel
+pixel-fits : (w : ℕ) (s : Settings) (r : Record) (k : ℕ) → eqb k 0 ≡ false → fitsBy w s k r ≡ true → r .head .pixel ≤ maxPixel
+unfolding fitsBy callFits
+pixel-fits w s r k i =
+    pick-both Fits (eqb k 0) (λ e y. absurd (true-false (sym e ∙ i)))
+    (λ e. pick-both Fits (leb k 10) (λ f. call _) (λ f. pick-both Fits (leb k 22) (λ g. call _) (λ g y. absurd (true-false (sym y)))))
+  where
+    Fits : Bool → Type 0
+    Fits b = b ≡ true → r .head .pixel ≤ maxPixel
+
+    call : (b : Bool) → both (callFits s k (r .head)) b ≡ true → r .head .pixel ≤ maxPixel
+    call b y = leb-true _ _ (both-left _ _ (both-left _ _ y))
+
+-- what a turn was asked before question 9
+pub record Asked (w : ℕ) (s : Settings) (i : ℕ) (a : Areas) : Type 0 where
+  pub one : question1 s ≡ true
+  pub three : question3 w s ≡ true
+  pub below : question4 s i ≡ true
+  pub pixel : recordOf w a i .head .pixel ≤ maxPixel
+  pub reads : readsBy (recordOf w a i .head .kind) w s (recordOf w a i .head) (recordOf w a i .moves) (memoryOf a) ≡ true
+
+-- where no question before 9 was answered no
+pub asked : (w : ℕ) (s : Settings) (i : ℕ) (a : Areas) {n : ℕ} → ((k : ℕ) → 1 ≤ k → k ≤ 8 → k ≢ n) → firstNo (turnQuestions w s i a) ≡ n → Asked w s i a
+unfolding turnQuestions question6 question7 question8 fits
+asked w s i a d e =
+    let (y₁, e₁) = first-later 1 _ _ (d 1 (omega arith) (omega arith)) e in
+    let (y₂, e₂) = first-later 2 _ _ (d 2 (omega arith) (omega arith)) e₁ in
+    let (y₃, e₃) = first-later 3 _ _ (d 3 (omega arith) (omega arith)) e₂ in
+    let (y₄, e₄) = first-later 4 _ _ (d 4 (omega arith) (omega arith)) e₃ in
+    let (y₆, e₆) = first-later 6 _ _ (d 6 (omega arith) (omega arith)) e₄ in
+    let (y₈, e₈) = first-later 8 _ _ (d 8 (omega arith) (omega arith)) e₆ in
+    let r : Record = recordOf w a i in
+    record { one = y₁; three = y₃; below = y₄; pixel = pixel-fits w s r (kindNo (r .head .kind)) (not-true _ y₈) (both-left _ _ y₆); reads = both-right _ _ y₆ }
+
+-- the answer of a turn that is carried out
+pub act-below : (w : ℕ) (s : Settings) (i : ℕ) (a : Areas) → Asked w s i a → NodeBelow (s .«nodes_taken») (act w s (recordOf w a i) (memoryOf a) .answer)
+unfolding act
+act-below w s i a y = kind-below w s (recordOf w a i .head) (memoryOf a) (recordOf w a i .head .kind) (recordOf w a i .moves) (y .reads)
