@@ -27,7 +27,7 @@ use Rattle.rules.specs.Lists.{State, state, after}
 use Rattle.rules.proofs.OneTurn.{turn-number, done-number, nine-is-full, turn-refused, refuses-turn}
 use Rattle.rules.proofs.Refused.{refuses-opening}
 use Rattle.rules.proofs.Carried.{opening-done}
-use Rattle.turns.proofs.Three.{Three, three-stays}
+use Rattle.rules.proofs.Three.{Three, three-stays}
 use Rattle.text.specs.Parts.{lineEnd, longer, split}
 use Rattle.text.specs.Commands.{command}
 use Rattle.text.specs.declared.Command.{Command}
