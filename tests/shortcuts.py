@@ -1,0 +1,132 @@
+#!/usr/bin/env python3
+"""Wrong versions of bench/by_hand.c, document 01's four shortcuts first: tests/row.c must find each, by the checks named with it; the file as it is must pass.
+Relies on tests/row.c, whose lines it reads, and on gcc. python3 tests/shortcuts.py [SEED]"""
+import os
+import re
+import subprocess
+import sys
+
+ROOT = os.path.dirname(os.path.dirname(os.path.abspath(__file__)))
+OUT = os.path.join(ROOT, "target/tests/shortcuts")
+SEED = sys.argv[1] if len(sys.argv) > 1 else "1"
+
+# texts of by_hand.c that several versions change
+PLACES = "        if (*x == 2 * h) {\n            *x = 2 * n + 1;\n            w[W_KIND] = IDLE"
+SETS = "        if (*x == 2 * h) {\n            *x = 2 * n + 1;\n            m[2]--;"
+FAILED = "        } else w[W_KIND] = k == PUT ? READ : FOLLOW;\n"
+FAILED_AND = "        } else { w[W_KIND] = k == PUT ? READ : FOLLOW; %s }\n"
+SPARE = "        if (w[W_HNODE]) n = w[W_HNODE] - 1;\n"
+SAME = "            if (nodes[2 * n] == w[W_PIXEL]) {\n"
+FOUND = "w[W_KIND] = IDLE, w[W_ANSWER] = 2, w[W_ANODE] = n;\n                *answer = 2, *node = n;"
+
+# A version: its name, the checks of row.c that must find it, and its edits, each a text and what takes its place.
+VERSIONS = [
+    ("shortcut 1, the chain's first node is set first", ["LOST"], [
+        ("        } else set_last(w, m);\n",
+         "        } else {\n"
+         "            for (uint32_t a = 0, b = m[2]; a + 1 < b; a++) b--, word = m[3 + a], m[3 + a] = m[3 + b], m[3 + b] = word;\n"
+         "            set_last(w, m);\n"
+         "        }\n")]),
+    ("shortcut 2 in Follow, on at the level met", ["NEW_PIXEL", "FULL_PLACED", "SIX"], [
+        ("            if (k == FOLLOW) NEED(back(s, levels, g, h, &g));\n", "")]),
+    # a node set too deep is reached, and missed by the next search for its pixel
+    ("shortcut 2 in SetFollow, on at the level met", ["NEW_PIXEL"], [
+        ("            NEED(back(s, levels, word >> 1, h, &g));\n", "            g = word >> 1;\n")]),
+    ("shortcut 3, the entry in H is written a turn before the last node is set", ["LOST"], [
+        ("        nodes[2 * n + 1] = 2 * h;\n        w[W_KIND] = SETLOOK;\n",
+         "        nodes[2 * n + 1] = 2 * h;\n"
+         "        m = mv(w);\n"
+         "        if (m[2] == 1) *entry(levels, m[0], w[W_MOVES] > 1 ? nodes[2 * last_node(m - 11)] : w[W_PIXEL]) = 2 * m[1];\n"
+         "        w[W_KIND] = SETLOOK;\n")]),
+    ("shortcut 3, the entry in H is written with a node still remembered", ["LOST"], [
+        ("static inline void set_last(uint32_t *w, const uint32_t *m) {\n    if (m[2] == 0) w[W_KIND] = MOVEEND;\n",
+         "static inline void set_last(uint32_t *w, uint32_t *m) {\n    if (m[2] <= 1) w[W_KIND] = MOVEEND, m[2] = 0;\n")]),
+    ("shortcut 4, a failed node goes to whoever takes next, its holder remembers it", ["NEW_NODE", "PIXEL_WORD"], [
+        ("typedef leafdrum_settings S;\n", "typedef leafdrum_settings S;\nstatic uint32_t handed;\n"),
+        ("    s.nodes_taken = 0;\n", "    s.nodes_taken = handed = 0;\n"),
+        (SPARE, SPARE + "        else if (handed) n = handed - 1, handed = 0;\n"),
+        (FAILED, FAILED_AND % "handed = n + 1;")]),
+    ("shortcut 4, nodes taken goes down, the holder remembers the node", ["TAKEN"], [(FAILED, FAILED_AND % "s->nodes_taken--;")]),
+    # this one has a row: "nodes taken is the number of turns that took a next number" alone excludes it
+    ("shortcut 4, nodes taken goes down, the holder forgets the node", ["TAKEN"], [
+        (FAILED, FAILED_AND % "if (n + 1 == s->nodes_taken) s->nodes_taken--, w[W_HNODE] = 0;")]),
+    ("Put without comparing", ["LOST"], [(PLACES, PLACES.replace("if (", "if (k == PUT || "))]),
+    ("Append without comparing", ["LOST"], [(PLACES, PLACES.replace("if (", "if (k == APPEND || "))]),
+    ("Close without comparing", ["LOST"], [
+        ("        if (*x == 2 * h) {\n            NEED(w[W_MOVES] < 7);\n", "        if (k == CLOSE || *x == 2 * h) {\n            NEED(w[W_MOVES] < 7);\n")]),
+    ("SetPut without comparing", ["LOST"], [(SETS, SETS.replace("if (", "if (k == SETPUT || "))]),
+    ("SetAppend without comparing", ["LOST"], [(SETS, SETS.replace("if (", "if (k == SETAPPEND || "))]),
+    ("a closed chain refers to the level behind the new one", ["UNTAKEN"], [("            *x = 2 * (w[W_HLEVEL] - 1);\n", "            *x = 2 * w[W_HLEVEL];\n")]),
+    ("a failed Close forgets its level", ["LEVELS_HELD"], [
+        ("        } else w[W_KIND] = k == CLOSE ? FOLLOW : SETFOLLOW;\n", "        } else w[W_KIND] = k == CLOSE ? FOLLOW : SETFOLLOW, w[W_HLEVEL] = 0;\n")]),
+    ("Follow passes over its pixel", ["NEW_PIXEL", "FULL_PLACED"], [(SAME, SAME.replace("(nodes", "(k == READ && nodes"))]),
+    ("Read goes on at its own level", ["ENDLESS"], [("            w[W_LEVEL] = g, w[W_KIND] = LOOK;\n", "            w[W_LEVEL] = k == READ ? h : g, w[W_KIND] = LOOK;\n")]),
+    ("placed a turn before new", ["NOT_PLACED"], [
+        (PLACES, PLACES.replace("if (", "if (*x == 2 * n + 1 || ").replace("            *x = 2 * n + 1;\n", "            if (*x == 2 * h) return *x = 2 * n + 1, 0;\n"))]),
+    ("new 0 always", ["NEW_NODE"], [("*answer = 1, *node = n;", "*answer = 1, *node = 0;")]),
+    ("found by seven digits", ["FOUND_FIRST"], [(SAME, SAME.replace("n] == w[W_PIXEL]", "n] >> 3 == w[W_PIXEL] >> 3"))]),
+    ("found with the node before", ["FOUND_NODE"], [(FOUND, FOUND.replace("= n;", "= w[W_NODE];"))]),
+    ("found forgets the spare node", ["SPARE"], [(FOUND, FOUND + " w[W_HNODE] = 0;")]),
+    ("full with a node left", ["FULL_EARLY"], [("        else if (s->nodes_taken < s->nodes) n", "        else if (s->nodes_taken + 1 < s->nodes) n")]),
+    ("full keeps the answer before", ["LAST"], [("            w[W_KIND] = IDLE, w[W_ANSWER] = 3, w[W_ANODE] = 0;\n", "            w[W_KIND] = IDLE;\n")]),
+    ("every call turned away", ["REFUSED"], [("    if (w[W_KIND] != IDLE) return reply(7, 0, 0, s);\n", "    return reply(7, 0, 0, s);\n")]),
+    ("an idle worker is answered", ["REFUSAL"], [
+        ("    if (w[W_KIND] == IDLE) return reply(8, 0, 0, s);\n", "    if (w[W_KIND] == IDLE) return reply(0, w[W_ANSWER], w[W_ANODE], s);\n")]),
+    ("a list counts idle entries", ["DONE"], [("        if (q != 8) done++;\n", "        done++;\n")]),
+]
+
+
+def read(path):
+    with open(os.path.join(ROOT, path), encoding="utf-8") as f:
+        return f.read()
+
+
+def edited(text, name, edits):
+    for old, new in edits:
+        if text.count(old) != 1:
+            sys.exit("shortcuts: %s: by_hand.c has %d times %r" % (name, text.count(old), old))
+        text = text.replace(old, new)
+    return text
+
+
+def built(text, level):
+    """The path of row.c over this text of by_hand.c."""
+    source, program = os.path.join(OUT, "table.c"), os.path.join(OUT, "table")
+    with open(source, "w", encoding="utf-8") as f:
+        f.write(text.replace('"../include/leafdrum.h"', '"%s/include/leafdrum.h"' % ROOT))
+    subprocess.run(["gcc", level, "-Wall", "-Wextra", "-Wno-unused", source, os.path.join(OUT, "row.o"), "-o", program], check=True)
+    return program
+
+
+def tried(program, tables):
+    """What row printed, and in how many tables each check failed first."""
+    done = subprocess.run([program, SEED, str(tables)], stdout=subprocess.PIPE, timeout=60)
+    said = done.stdout.decode()
+    found = {name: int(n) for name, n in re.findall(r"^row: ([a-z0-9 ]+): in (\d+) of", said, re.M)}
+    if done.returncode != (1 if found else 0):
+        sys.exit("shortcuts: row ended with status %d" % done.returncode)
+    return said, found
+
+
+checks = dict(re.findall(r'^    \[([A-Z_]+)\] = "([^"]+)",$', read("tests/row.c"), re.M))
+by_hand = read("bench/by_hand.c")
+os.makedirs(OUT, exist_ok=True)
+subprocess.run(["gcc", "-std=c99", "-O2", "-Wall", "-Wextra", "-Werror", "-DTABLE=by_hand", "-c", os.path.join(ROOT, "tests/row.c"), "-o", os.path.join(OUT, "row.o")], check=True)
+said, found = tried(built(by_hand, "-O2"), 2000)
+print("by_hand.c: " + said.strip())
+bad = ["by_hand.c as it is does not pass"] if found else []
+for name, by, edits in VERSIONS:
+    program = built(edited(by_hand, name, edits), "-O0")
+    for tables in (100, 1000):
+        _, found = tried(program, tables)
+        missing = [checks[c] for c in by if checks[c] not in found]
+        if not missing:
+            break
+    print("%s: %s, of %d tables" % (name, ", ".join("%s %d" % f for f in sorted(found.items(), key=lambda f: -f[1])) or "not found", tables))
+    bad += ["%s: not found by '%s'" % (name, check) for check in missing]
+bad += ["no version is found by '%s'" % text for c, text in checks.items() if not any(c in by for _, by, _ in VERSIONS)]
+for line in bad:
+    print("shortcuts: " + line)
+if bad or len(checks) < 19:
+    sys.exit(1)
+print("shortcuts: by_hand.c passes, %d wrong versions are found, each of %d checks finds one" % (len(VERSIONS), len(checks)))
