@@ -1,0 +1,162 @@
+/* Every function, field and constant of include/leafdrum.h against the library: with a header that says something else this does not build, or fails when run.
+   Relies on the header and the library alone. Builds as C99 and as C++20; tests/headers.py builds it both ways, and with wrong headers. */
+#include "../include/leafdrum.h"
+#include <stdio.h>
+
+/* Another width, sign or number of parameters does not build: a pointer of this type does not take the function. */
+#define AREA_TYPES uint32_t *, size_t, uint32_t *, size_t, uint32_t *, size_t
+leafdrum_reply (*const opening)(leafdrum_settings, AREA_TYPES) = leafdrum_open;
+leafdrum_reply (*const starting)(leafdrum_settings, uint32_t, uint32_t, uint32_t, AREA_TYPES) = leafdrum_start;
+leafdrum_reply (*const one_turn)(leafdrum_settings, uint32_t, AREA_TYPES) = leafdrum_turn;
+leafdrum_reply (*const list_of_turns)(leafdrum_settings, const uint8_t *, size_t, uint32_t, AREA_TYPES) = leafdrum_turns;
+leafdrum_reply (*const last_answer)(leafdrum_settings, uint32_t, AREA_TYPES) = leafdrum_last;
+uint32_t (*const level_count)(leafdrum_settings) = leafdrum_level_count;
+
+/* words needed for 3 workers, chain limit 2, 11 nodes: 39 levels */
+enum { NODE_WORDS = 2 * 11, LEVEL_WORDS = 10 * 39, WORKER_WORDS = 128 * 3 };
+static uint32_t nodes[NODE_WORDS], levels[LEVEL_WORDS], workers[WORKER_WORDS];
+#define AREAS nodes, NODE_WORDS, levels, LEVEL_WORDS, workers, WORKER_WORDS
+
+static int failed;
+static void same(const char *what, size_t is, size_t should) {
+    if (is == should) return;
+    printf("header: %s is %lu, not %lu\n", what, (unsigned long)is, (unsigned long)should);
+    failed = 1;
+}
+
+#define FIELD(type, field, place) same("place of " #field, offsetof(type, field), place), same("size of " #field, sizeof((type *)0)->field, 4)
+
+static void structs(void) {
+    FIELD(leafdrum_settings, workers, 0);
+    FIELD(leafdrum_settings, limit, 4);
+    FIELD(leafdrum_settings, nodes, 8);
+    FIELD(leafdrum_settings, nodes_taken, 12);
+    FIELD(leafdrum_settings, levels_taken, 16);
+    same("size of leafdrum_settings", sizeof(leafdrum_settings), 20);
+    FIELD(leafdrum_reply, number, 0);
+    FIELD(leafdrum_reply, answer, 4);
+    FIELD(leafdrum_reply, node, 8);
+    FIELD(leafdrum_reply, turns, 12);
+    same("place of settings", offsetof(leafdrum_reply, settings), 16);
+    same("size of leafdrum_reply", sizeof(leafdrum_reply), 36);
+}
+
+static leafdrum_settings with(uint32_t crew, uint32_t limit, uint32_t count, uint32_t nodes_taken, uint32_t levels_taken) {
+    leafdrum_settings s = {.workers = crew, .limit = limit, .nodes = count, .nodes_taken = nodes_taken, .levels_taken = levels_taken};
+    return s;
+}
+
+/* Each field by what the library asks of it alone; with the bounds exchanged between two fields another number comes. */
+static void fields(void) {
+    leafdrum_reply r = leafdrum_last(with(3, 2, 11, 7, 9), 2, AREAS);
+    same("number of a last answer", r.number, 0);
+    same("workers given back", r.settings.workers, 3);
+    same("limit given back", r.settings.limit, 2);
+    same("nodes given back", r.settings.nodes, 11);
+    same("nodes_taken given back", r.settings.nodes_taken, 7);
+    same("levels_taken given back", r.settings.levels_taken, 9);
+    same("levels of 3 workers, limit 2, 11 nodes", leafdrum_level_count(with(3, 2, 11, 0, 0)), 39);
+    same("levels of the largest table", leafdrum_level_count(with(16, 8, 4096, 0, 0)), 3601);
+    same("levels of 17 workers", leafdrum_level_count(with(17, 8, 4096, 0, 0)), 0);
+    same("levels of limit 9", leafdrum_level_count(with(16, 9, 4096, 0, 0)), 0);
+    same("levels of 4097 nodes", leafdrum_level_count(with(16, 8, 4097, 0, 0)), 0);
+    same("11 nodes taken of 11", leafdrum_last(with(3, 2, 11, 11, 39), 2, AREAS).number, 0);
+    same("12 nodes taken of 11", leafdrum_last(with(3, 2, 11, 12, 39), 2, AREAS).number, 3);
+    same("40 levels taken of 39", leafdrum_last(with(3, 2, 11, 11, 40), 2, AREAS).number, 3);
+    same("no level taken", leafdrum_last(with(3, 2, 11, 0, 0), 2, AREAS).number, 3);
+}
+
+/* One word less in one area is refused by 2. An opening writes level 0 and the workers' words, and no node. */
+static void areas(leafdrum_settings s) {
+    static const uint8_t list[] = {0};
+    for (int k = 0; k < 3; k++) {
+        size_t n = NODE_WORDS - (k == 0), l = LEVEL_WORDS - (k == 1), w = WORKER_WORDS - (k == 2);
+        same("open with a word less", leafdrum_open(s, nodes, n, levels, l, workers, w).number, 2);
+        same("start with a word less", leafdrum_start(s, 0, 0, 0, nodes, n, levels, l, workers, w).number, 2);
+        same("turn with a word less", leafdrum_turn(s, 0, nodes, n, levels, l, workers, w).number, 2);
+        same("turns with a word less", leafdrum_turns(s, list, 1, 1, nodes, n, levels, l, workers, w).number, 2);
+        same("last with a word less", leafdrum_last(s, 0, nodes, n, levels, l, workers, w).number, 2);
+    }
+    nodes[0] = levels[0] = workers[0] = 5;
+    leafdrum_reply r = leafdrum_open(s, AREAS);
+    same("number of an opening", r.number, 0);
+    same("answer of an opening", r.answer, LEAFDRUM_NONE);
+    same("nodes taken by an opening", r.settings.nodes_taken, 0);
+    same("levels taken by an opening", r.settings.levels_taken, 1);
+    same("first word of the nodes", nodes[0], 5);
+    same("first word of the levels", levels[0], 4294967295u);
+    same("first word of the workers", workers[0], 0);
+}
+
+/* A call of worker 1 for row, column up to its end. */
+static leafdrum_reply call(leafdrum_settings s, uint32_t row, uint32_t column) {
+    leafdrum_reply r = leafdrum_start(s, 1, row, column, AREAS);
+    for (int k = 0; k < 100 && r.answer == LEAFDRUM_OPEN; k++) r = leafdrum_turn(r.settings, 1, AREAS);
+    return r;
+}
+
+static void arguments(void) {
+    leafdrum_reply r = leafdrum_open(with(3, 2, 11, 7, 9), AREAS);
+    leafdrum_settings s = r.settings;
+    same("start of worker 3 of 3", leafdrum_start(s, 3, 0, 0, AREAS).number, 4);
+    same("turn of worker 3 of 3", leafdrum_turn(s, 3, AREAS).number, 4);
+    same("last of worker 3 of 3", leafdrum_last(s, 3, AREAS).number, 4);
+    same("start in row 4096", leafdrum_start(s, 1, 4096, 0, AREAS).number, 5);
+    same("start in column 4096", leafdrum_start(s, 1, 0, 4096, AREAS).number, 5);
+    same("turn of an idle worker", leafdrum_turn(s, 1, AREAS).number, 8);
+    r = leafdrum_start(s, 1, 2, 3, AREAS);
+    same("answer of a start", r.answer, LEAFDRUM_OPEN);
+    same("pixel of worker 1", workers[128 + 1], 2 * 4096 + 3);
+    same("start of an open worker", leafdrum_start(s, 1, 2, 3, AREAS).number, 7);
+    /* entry 3 names no worker: a list that were read with its count and limit exchanged would be refused */
+    static const uint8_t list[] = {1, 1, 0, 9};
+    same("list with entry 9", leafdrum_turns(s, list, 4, 2, AREAS).number, 4);
+    r = leafdrum_turns(s, list, 3, 1, AREAS);
+    same("turns done with limit 1", r.turns, 1);
+    r = leafdrum_turns(r.settings, list, 3, 4, AREAS);
+    same("number of a list", r.number, 0);
+    same("turns done with limit 4", r.turns, 2);
+    same("nodes taken by a list", r.settings.nodes_taken, 1);
+}
+
+/* Each constant against the answer that document 01 gives the call. */
+static void answers(void) {
+    leafdrum_settings s = leafdrum_open(with(3, 2, 4, 0, 0), AREAS).settings;
+    same("last answer before the first end", leafdrum_last(s, 1, AREAS).answer, LEAFDRUM_NONE);
+    leafdrum_reply r = leafdrum_start(s, 1, 0, 0, AREAS);
+    same("answer of a start", r.answer, LEAFDRUM_OPEN);
+    same("answer of a first turn", leafdrum_turn(r.settings, 1, AREAS).answer, LEAFDRUM_OPEN);
+    same("last answer amid a call", leafdrum_last(s, 1, AREAS).answer, LEAFDRUM_OPEN);
+
+    s = leafdrum_open(with(3, 2, 4, 0, 0), AREAS).settings;
+    for (uint32_t k = 0; k < 4; k++) {
+        r = call(s, 512 * k, 0);
+        same("answer of a first call", r.answer, LEAFDRUM_NEW);
+        same("its node", r.node, k);
+        same("its number", r.number, 0);
+        same("its turns", r.turns, 0);
+        same("nodes taken after it", r.settings.nodes_taken, k + 1);
+        same("levels taken after it", r.settings.levels_taken, 1);
+        s = r.settings;
+    }
+    r = call(s, 3 * 512, 0);
+    same("answer of a second call", r.answer, LEAFDRUM_FOUND);
+    same("its node", r.node, 3);
+    same("its number", r.number, 0);
+    r = leafdrum_last(s, 1, AREAS);
+    same("last answer after it", r.answer, LEAFDRUM_FOUND);
+    same("its node", r.node, 3);
+    r = call(s, 4 * 512, 0);
+    same("answer of a call with every node taken", r.answer, LEAFDRUM_FULL);
+    same("its number", r.number, 9);
+    same("its node", r.node, 0);
+}
+
+int main(void) {
+    structs();
+    fields();
+    areas(with(3, 2, 11, 7, 9));
+    arguments();
+    answers();
+    return failed;
+}

@@ -1,0 +1,168 @@
+#!/usr/bin/env python3
+"""include/leafdrum.h declares what crates/export defines, and tests/header.c passes with it as C99 and as C++; with each wrong header one of these fails.
+Relies on gcc, g++ and target/staticlib/libexport.a. A wrong header that does not compile by itself counts as not found. python3 tests/headers.py [-v]"""
+import os
+import re
+import subprocess
+import sys
+
+ROOT = os.path.dirname(os.path.dirname(os.path.abspath(__file__)))
+OUT = os.path.join(ROOT, "target/tests/headers")
+HEADER, TEST, PROGRAM = (os.path.join(OUT, p) for p in ("include/leafdrum.h", "tests/header.c", "header"))
+STRICT = ["-pedantic", "-Wall", "-Wextra", "-Werror"]
+LANGUAGES = {"C": ["gcc", "-x", "c", "-std=c99"], "C++": ["g++", "-x", "c++", "-std=c++20"]}
+
+WORKERS = "    uint32_t workers;      /* 1 to 16 */\n"
+LIMIT = "    uint32_t limit;        /* chain limit, 1 to 8 */\n"
+NODES = "    uint32_t nodes;        /* 1 to 4096 */\n"
+NODES_TAKEN = "    uint32_t nodes_taken;  /* set by leafdrum_open */\n"
+LEVELS_TAKEN = "    uint32_t levels_taken; /* set by leafdrum_open */\n"
+NUMBER = "    uint32_t number; /* 0: carried out; else the number of the refusal, 1 to 9 */\n"
+ANSWER = "    uint32_t answer; /* one of the answers above; 0 for a refusal other than \"full\", an opening and a list */\n"
+NODE = "    uint32_t node;   /* the node of \"new\" and \"found\", else 0 */\n"
+TURNS = "    uint32_t turns;  /* turns done by leafdrum_turns, else 0 */\n"
+SETTINGS = "    leafdrum_settings settings;\n"
+START = "uint32_t worker, uint32_t row, uint32_t column, "
+LIST = "const uint8_t *list, size_t count, uint32_t limit, "
+
+# A wrong header: its name and its edit. Those in NAMES differ in names of parameters alone, which no program can see.
+WRONG = [
+    ("settings: workers after limit", WORKERS + LIMIT, LIMIT + WORKERS),
+    ("settings: limit after nodes", LIMIT + NODES, NODES + LIMIT),
+    ("settings: nodes after nodes_taken", NODES + NODES_TAKEN, NODES_TAKEN + NODES),
+    ("settings: nodes_taken after levels_taken", NODES_TAKEN + LEVELS_TAKEN, LEVELS_TAKEN + NODES_TAKEN),
+    ("settings: no levels_taken", LEVELS_TAKEN, ""),
+    ("settings: a word more", LEVELS_TAKEN, LEVELS_TAKEN + "    uint32_t more;\n"),
+    ("settings: workers of 8 bits", WORKERS, WORKERS.replace("uint32_t", "uint8_t")),
+    ("settings: nodes of 64 bits", NODES, NODES.replace("uint32_t", "uint64_t")),
+    ("reply: number after answer", NUMBER + ANSWER, ANSWER + NUMBER),
+    ("reply: answer after node", ANSWER + NODE, NODE + ANSWER),
+    ("reply: node after turns", NODE + TURNS, TURNS + NODE),
+    ("reply: turns after settings", TURNS + SETTINGS, SETTINGS + TURNS),
+    ("reply: no turns", TURNS, ""),
+    ("reply: number of 64 bits", NUMBER, NUMBER.replace("uint32_t", "uint64_t")),
+    ("reply: number of 16 bits", NUMBER, NUMBER.replace("uint32_t", "uint16_t")),
+    ("constants: none and open exchanged", "NONE = 0, LEAFDRUM_NEW = 1, LEAFDRUM_FOUND = 2, LEAFDRUM_FULL = 3, LEAFDRUM_OPEN = 4", "NONE = 4, LEAFDRUM_NEW = 1, LEAFDRUM_FOUND = 2, LEAFDRUM_FULL = 3, LEAFDRUM_OPEN = 0"),
+    ("constants: new and found exchanged", "NEW = 1, LEAFDRUM_FOUND = 2", "NEW = 2, LEAFDRUM_FOUND = 1"),
+    ("constants: found and full exchanged", "FOUND = 2, LEAFDRUM_FULL = 3", "FOUND = 3, LEAFDRUM_FULL = 2"),
+    ("constants: full and open exchanged", "FULL = 3, LEAFDRUM_OPEN = 4", "FULL = 4, LEAFDRUM_OPEN = 3"),
+    ("constants: full is 9", "FULL = 3", "FULL = 9"),
+    ("areas: no length of the levels", "uint32_t *levels, size_t level_words", "uint32_t *levels"),
+    ("areas: length before its area", "uint32_t *nodes, size_t node_words", "size_t node_words, uint32_t *nodes"),
+    ("areas: length of 32 bits", "size_t node_words", "uint32_t node_words"),
+    ("areas: levels of 64 bits", "uint32_t *levels", "uint64_t *levels"),
+    ("start: no column", START, START.replace("uint32_t column, ", "")),
+    ("start: row and column of 16 bits", START, START.replace("uint32_t row, uint32_t column", "uint16_t row, uint16_t column")),
+    ("turn: worker of 8 bits", "leafdrum_turn(leafdrum_settings settings, uint32_t worker", "leafdrum_turn(leafdrum_settings settings, uint8_t worker"),
+    ("turn: settings lent", "leafdrum_turn(leafdrum_settings settings", "leafdrum_turn(leafdrum_settings *settings"),
+    ("turns: limit before count", LIST, "const uint8_t *list, uint32_t limit, size_t count, "),
+    ("turns: no limit", LIST, LIST.replace("uint32_t limit, ", "")),
+    ("turns: entries of 32 bits", LIST, LIST.replace("uint8_t", "uint32_t")),
+    ("last: no worker", "leafdrum_last(leafdrum_settings settings, uint32_t worker, ", "leafdrum_last(leafdrum_settings settings, "),
+    ("last: gives the answer alone", "leafdrum_reply leafdrum_last", "uint32_t leafdrum_last"),
+    ("level_count: 16 bits", "uint32_t leafdrum_level_count", "uint16_t leafdrum_level_count"),
+    ("no extern \"C\"", "extern \"C\" {", "extern \"C++\" {"),
+    ("areas: nodes after levels", "uint32_t *nodes, size_t node_words, uint32_t *levels, size_t level_words", "uint32_t *levels, size_t level_words, uint32_t *nodes, size_t node_words"),
+    ("areas: levels after workers", "uint32_t *levels, size_t level_words, uint32_t *workers, size_t worker_words", "uint32_t *workers, size_t worker_words, uint32_t *levels, size_t level_words"),
+    ("start: row after column", START, "uint32_t worker, uint32_t column, uint32_t row, "),
+    ("start: worker after row", START, "uint32_t row, uint32_t worker, uint32_t column, "),
+]
+NAMES = {"areas: nodes after levels", "areas: levels after workers", "start: row after column", "start: worker after row"}
+
+
+def read(path):
+    with open(os.path.join(ROOT, path), encoding="utf-8") as f:
+        return f.read()
+
+
+def write(path, text):
+    os.makedirs(os.path.dirname(path), exist_ok=True)
+    with open(path, "w", encoding="utf-8") as f:
+        f.write(text)
+
+
+def defined():
+    """The declarations that the Rattle source asks for, each as C without blanks."""
+    c_name = {"Settings": "leafdrum_settings", "LeafdrumReply": "leafdrum_reply", "u32": "uint32_t", "Nothing": "NONE"}
+    lengths = {"list": "count", "nodes": "node_words", "levels": "level_words", "workers": "worker_words"}
+    source = read("crates/export/src/lib.rt")
+    found = []
+
+    def parameter(name, kind):
+        slices = {"&mut [u32]": "uint32_t*%s,size_t%s", "&[u8]": "constuint8_t*%s,size_t%s"}
+        return slices[kind] % (name, lengths[name]) if kind in slices else c_name[kind] + name
+
+    for struct, text in (("Settings", read("crates/settings/src/lib.rt")), ("LeafdrumReply", source)):
+        body = re.search(r"pub struct %s \{(.*?)\n\}" % struct, text, re.S).group(1)
+        fields = "".join("%s%s;" % (c_name[kind], name) for name, kind in re.findall(r"pub (\w+): (\w+),", body))
+        found.append("typedefstruct{%s}%s;" % (fields, c_name[struct]))
+    for name, given, kind in re.findall(r'pub extern "C" fn (\w+)\((.*?)\) -> (\w+)', source, re.S):
+        found.append("%s%s(%s);" % (c_name[kind], name, ",".join(parameter(*p) for p in re.findall(r"(\w+): ([^,]+?)(?:,|$)", given))))
+    answers = re.findall(r"Answer::(\w+)(?:\(_\))? => (\d)", re.search(r"fn answer_no(.*?)\n\}", source, re.S).group(1))
+    found.append("enum{%s};" % ",".join("LEAFDRUM_%s=%s" % (c_name.get(a, a).upper(), n) for a, n in answers))
+    return sorted(found)
+
+
+def declared(header):
+    """The header's declarations without comments and blanks, its areas written out."""
+    text = re.sub(r"/\*.*?\*/", "", header, flags=re.S)
+    areas = re.search(r"#define LEAFDRUM_AREAS (.*)", text).group(1)
+    text = re.sub(r"^#.*$", "", text, flags=re.M).replace("LEAFDRUM_AREAS", areas)
+    text = re.sub(r'extern "C" \{\s*', "", text, count=1)
+    text = re.sub(r"\s+", "", text)
+    return sorted(re.findall(r"(?:typedefstruct|enum)\{[^}]*\}\w*;|\w+\([^)]*\);", text))
+
+
+def runs(words):
+    """What the command prints where it fails, or None."""
+    done = subprocess.run(words, stdout=subprocess.PIPE, stderr=subprocess.STDOUT, timeout=60)
+    return None if done.returncode == 0 else done.stdout.decode(errors="replace") or "status %d" % done.returncode
+
+
+def compiles(command):
+    alone = os.path.join(OUT, "alone.c")
+    write(alone, '#include "include/leafdrum.h"\nint main(void) { return 0; }\n')
+    return runs(command + STRICT + ["-fsyntax-only", alone]) is None
+
+
+def finds(header):
+    """How header.c finds this header wrong, or None: as C first, as C++ where C finds nothing."""
+    write(HEADER, header)
+    for language, command in LANGUAGES.items():
+        if runs(command + STRICT + [TEST, "-x", "none", os.path.join(ROOT, "target/staticlib/libexport.a"), "-o", PROGRAM]) is not None:
+            return "not built as " + language if compiles(command) else "no header in " + language
+        said = runs([PROGRAM])
+        if said is not None:
+            return "run as %s: %s" % (language, said.splitlines()[0])
+    return None
+
+
+right = read("include/leafdrum.h")
+write(TEST, read("tests/header.c"))
+way = finds(right)
+bad = ["header.c fails: " + way] if way else []
+if not compiles(["g++", "-x", "c++", "-std=c++11"]):
+    bad.append("include/leafdrum.h is not C++11")
+if declared(right) != defined():
+    bad += ["include/leafdrum.h does not say " + d for d in defined() if d not in declared(right)] or ["include/leafdrum.h declares more than crates/export defines"]
+ways = {"not built": 0, "run": 0, "names": 0}
+for name, old, new in WRONG:
+    if right.count(old) != 1:
+        sys.exit("headers: %s: the header has %d times %r" % (name, right.count(old), old))
+    wrong = right.replace(old, new)
+    way = finds(wrong)
+    if name in NAMES and not way and declared(wrong) != defined():
+        way = "names"
+    if "-v" in sys.argv:
+        print("%s: %s" % (name, way))
+    kind = next((k for k in ways if (way or "").startswith(k)), None)
+    if kind:
+        ways[kind] += 1
+    else:
+        bad.append("%s: %s" % (name, way or "not found"))
+for line in bad:
+    print("headers: " + line)
+if bad:
+    sys.exit(1)
+print("headers: header.c passes as C99 and C++, and the header declares what crates/export defines; %d wrong headers are found: %d do not build header.c, %d fail when run, "
+      "%d differ from the source in a name" % (len(WRONG), ways["not built"], ways["run"], ways["names"]))
