@@ -12,6 +12,8 @@ gcc -O2 -Wall -Wextra -Werror examples/embed.c target/staticlib/libexport.a -o "
 "$out/embed" >"$out/embed.out" || { echo "embed.c: status $?"; exit 1; }
 diff "$out/embed.out" examples/embed.out
 echo "embed.c: as in embed.out"
+python3 tests/headers.py
+python3 tests/layout.py
 python3 tests/states.py
 sh tests/documents.sh
 gcc -std=c99 -O2 -Wall -Wextra -Werror tests/row.c target/staticlib/libexport.a -o "$out/row"
