@@ -1,7 +1,8 @@
 #!/bin/sh
 # Builds target/bin/leafdrum and target/staticlib/libexport.a from the records in checked/, in seconds: sh tools/build.sh
 # A record is what the compiler wrote when it proved a crate (rattle check -o): the sum of all that it read, and its verdict. The compiler builds nothing
-# from a record that does not match: status 3. With --record such a crate is proved here, and its record is written anew. Under another kit rt proves all.
+# from a record that does not match: status 3. With --record such a crate is proved here, without a cache, which takes some minutes a crate, and its record is
+# written anew. Under another kit rt proves all.
 set -eu
 cd "$(dirname "$0")/.."
 case ${1:-} in '' | --record) ;; *) echo "usage: sh tools/build.sh [--record]" >&2; exit 2 ;; esac
@@ -54,7 +55,7 @@ for c in $(crates); do
         exit 3
     fi
     echo "build.sh: proving $c" >&2
-    compiler check "$c" --cache "$PWD/target/cache" -o "checked/$c" >"$built/log" 2>&1 || { cat "$built/log" >&2; exit 1; }
+    compiler check "$c" --no-cache -o "checked/$c" >"$built/log" 2>&1 || { cat "$built/log" >&2; exit 1; }
     build "$c" >"$built/log" 2>&1 || { cat "$built/log" >&2; exit 1; }
 done
 "$own/bin/rattle-link" --target x86_64-unknown-linux-gnu --toolchain "$own/toolchain" -o "$built/leafdrum" "$built/leafdrum.o" >"$built/log" 2>&1 || { cat "$built/log" >&2; exit 1; }
