@@ -1,6 +1,7 @@
 #!/usr/bin/env python3
 """What README.md and docs/ say of the repository: each link leads to a file, each name that stands before a link is declared there, the race prints what the
-README shows, and the worked memory is as the sizes give it."""
+README shows, the worked memory is as the sizes give it, crates and must-fail edits are as many as it says, and it names each test that run.sh runs.
+Relies on crates.txt, crates/*/must-fail, tests/run.sh and the program."""
 import glob
 import os
 import re
@@ -50,8 +51,18 @@ for number in words + [levels, sum(words), 4 * sum(words)]:
     if "{:,}".format(number) not in readme:
         bad.append("README.md: the worked memory has no {:,}".format(number))
 
+crates = len([line for line in read("crates.txt").splitlines() if line and not line.startswith("#")])
+edits = len(glob.glob(os.path.join(ROOT, "crates/*/must-fail/*.edit")))
+last = "rt: ok, %d crates proved, %d must-fail edits refused\n%d passed, 0 failed\n" % (crates, edits, crates + edits)
+if last not in readme:
+    bad.append("README.md does not show the test command's last lines:\n" + last.strip())
+
+for test in re.findall(r"tests/(\w+\.\w+)", read("tests/run.sh")):
+    if not re.search(r"`(?:tests/)?%s`" % re.escape(test), readme):
+        bad.append("README.md does not say what tests/%s does" % test)
+
 for line in bad:
     print(line)
 if bad or names < 10:
     sys.exit(1)
-print("README and docs: %d links, %d names, the race and the worked memory hold" % (links, names))
+print("README and docs: %d links, %d names, the race, the worked memory, %d crates and %d edits hold" % (links, names, crates, edits))

@@ -5,6 +5,7 @@ cd "$(dirname "$0")/.."
 sh tests/readers_guide.sh
 # The tests need the library and the program: they are built from the records of the check. A record that does not match fails here. rt ci trusts none.
 sh tools/build.sh
+sh tests/records.sh
 python3 tests/readme.py
 out=target/tests
 mkdir -p "$out"
