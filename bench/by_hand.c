@@ -1,4 +1,5 @@
-/* The same table written by hand in C, with the same refusals and the same record, for comparing speed. Its functions have the prefix HAND. */
+/* The same table written by hand in C, with the same refusals and the same record, for comparing speed and for trying wrong versions (tests/shortcuts.py).
+   Relies on include/leafdrum.h for the types. Its functions have the prefix HAND. */
 #include "../include/leafdrum.h"
 #include <string.h>
 

@@ -23,6 +23,7 @@ NODE = "    uint32_t node;   /* the node of \"new\" and \"found\", else 0 */\n"
 TURNS = "    uint32_t turns;  /* turns done by leafdrum_turns, else 0 */\n"
 SETTINGS = "    leafdrum_settings settings;\n"
 START = "uint32_t worker, uint32_t row, uint32_t column, "
+CONSTANTS = "LEAFDRUM_NONE = 0, LEAFDRUM_NEW = 1, LEAFDRUM_FOUND = 2, LEAFDRUM_FULL = 3, LEAFDRUM_OPEN = 4"
 LIST = "const uint8_t *list, size_t count, uint32_t limit, "
 
 # A wrong header: its name and its edit. Those in NAMES differ in names of parameters alone, which no program can see.
@@ -42,7 +43,7 @@ WRONG = [
     ("reply: no turns", TURNS, ""),
     ("reply: number of 64 bits", NUMBER, NUMBER.replace("uint32_t", "uint64_t")),
     ("reply: number of 16 bits", NUMBER, NUMBER.replace("uint32_t", "uint16_t")),
-    ("constants: none and open exchanged", "NONE = 0, LEAFDRUM_NEW = 1, LEAFDRUM_FOUND = 2, LEAFDRUM_FULL = 3, LEAFDRUM_OPEN = 4", "NONE = 4, LEAFDRUM_NEW = 1, LEAFDRUM_FOUND = 2, LEAFDRUM_FULL = 3, LEAFDRUM_OPEN = 0"),
+    ("constants: none and open exchanged", CONSTANTS, CONSTANTS.replace("NONE = 0", "NONE = 4").replace("OPEN = 4", "OPEN = 0")),
     ("constants: new and found exchanged", "NEW = 1, LEAFDRUM_FOUND = 2", "NEW = 2, LEAFDRUM_FOUND = 1"),
     ("constants: found and full exchanged", "FOUND = 2, LEAFDRUM_FULL = 3", "FOUND = 3, LEAFDRUM_FULL = 2"),
     ("constants: full and open exchanged", "FULL = 3, LEAFDRUM_OPEN = 4", "FULL = 4, LEAFDRUM_OPEN = 3"),

@@ -393,6 +393,7 @@ class Measured:
              list(range(len(head))) + [unused[0], unused[-1]]),
             (r"\| (N) Move (N): home child count n(N) \.\. n(N) \| (N) Move (N): the same \| \.\.\. \| (N) Move (N) \| (N)-(N) - \|",
              [home[0], 0, 0, self.most_nodes - 1, home[1], 1, home[-2], len(home) - 2, home[-1], self.record - 1]),
+            (r"two pixels in one chain of level (N)\.", [0]),
             (r"## Nodes: (N) words each", [self.node]),
             (r"## Levels: (N) words each", [self.level]),
             (r"\| entry e, (N) to (N): a reference \|", [0, entries - 1]),
@@ -466,7 +467,6 @@ def noticed(text, tables, measured):
         return True
 
 
-CAPTION = "A table as these words show it"  # of a picture: it names a level and no word
 # Names that stand next to each other: kinds and answers behind their numbers, the words of a head, the words of a Move
 NAME = r"([A-Z]\w+|none|new|found|full)"
 NEIGHBOURS = [r"(?<=\d )%s(,\s\d+ )%s\b" % (NAME, NAME), r"(?<=\d \| )([^|]+)( \|[^\n]*\n\| \d+ \| )([^|]+)(?= \|)", r"(?<= j \| Move j: )(\w+)( \|[^\n]*\n\| [^|]* j \| Move j: )(\w+)"]
@@ -475,8 +475,6 @@ NEIGHBOURS = [r"(?<=\d )%s(,\s\d+ )%s\b" % (NAME, NAME), r"(?<=\d \| )([^|]+)( \
 def changed(text):
     """Each text with one number higher or lower by one, or with two neighbours exchanged, and what was changed."""
     for m in re.finditer(r"\d+(?:,\d{3})*", text):
-        if text.startswith(CAPTION, text.rfind("\n", 0, m.start()) + 1):
-            continue
         old = number(m.group())
         for new in (old - 1, old + 1) if old else (1,):
             yield "%d for %r" % (new, text[m.start():m.start() + 20]), text[:m.start()] + format(new, "," if "," in m.group() else "d") + text[m.end():]
