@@ -1,4 +1,4 @@
-// The C interface: the public operations with their answers as numbers. include/leafdrum.h declares it; nothing checks that header.
+// The C interface: the public operations with their answers as numbers. include/leafdrum.h declares it; tests/headers.py compares the two.
 // Relies on table and lists for the operations.
 ghost use mathlib.Core.Path.{_≡_};
 ghost use Rattle.areas.specs.Memory.{areas};
