@@ -165,5 +165,5 @@ for line in bad:
     print("headers: " + line)
 if bad:
     sys.exit(1)
-print("headers: header.c passes as C99 and C++, and the header declares what crates/export defines; %d wrong headers are found: %d do not build header.c, %d fail when run, "
-      "%d differ from the source in a name" % (len(WRONG), ways["not built"], ways["run"], ways["names"]))
+print("headers: header.c passes as C99 and as C++, the header is as crates/export; %d wrong headers are found: %d not built, %d when run, %d by a name"
+      % (len(WRONG), ways["not built"], ways["run"], ways["names"]))
