@@ -1,8 +1,8 @@
 #!/bin/sh
 # Builds target/bin/leafdrum and target/staticlib/libexport.a from the records in checked/, in seconds: sh tools/build.sh
 # A record is what the compiler wrote when it proved a crate (rattle check -o): the sum of all that it read, and its verdict. The compiler builds nothing
-# from a record that does not match: status 3. With --record such a crate is proved here, without a cache, which takes some minutes a crate, and its record is
-# written anew. Under another kit rt proves all.
+# from a record that does not match: status 3. With --record such a crate is proved here without a cache, and its record is written anew: for all crates this
+# takes some half an hour on two cores. Under another kit rt proves all.
 set -eu
 cd "$(dirname "$0")/.."
 case ${1:-} in '' | --record) ;; *) echo "usage: sh tools/build.sh [--record]" >&2; exit 2 ;; esac
@@ -36,28 +36,53 @@ compiler() { # VERB CRATE [WORDS...]
     "$own/bin/rattle" "$verb" "$@" -L "dependency=$built" -L "dependency=$own/rlib" --antt-project "$kit/logic/antt-project.json"
 }
 
-# Builds a crate from its record.
-build() { # CRATE
+# Builds a crate from its record among RECORDS.
+build() { # CRATE RECORDS
     case $1 in
-    export) compiler build "$1" --crate-checked "checked/$1" --toolchain "$own/toolchain" -o "$built/libexport.a" ;;
-    leafdrum) compiler build "$1" --crate-checked "checked/$1" --toolchain "$own/toolchain" -o "$built/$1.o" ;;
-    *) compiler build "$1" --crate-checked "checked/$1" -o "$built/$1.rlib" ;;
+    export) set -- "$1" "$2" --toolchain "$own/toolchain" -o "$built/libexport.a" ;;
+    leafdrum) set -- "$1" "$2" --toolchain "$own/toolchain" -o "$built/$1.o" ;;
+    *) set -- "$1" "$2" -o "$built/$1.rlib" ;;
     esac
+    of=$1 records=$2
+    shift 2
+    compiler build "$of" --crate-checked "$records/$of" "$@" >"$built/log" 2>&1
+}
+
+# Proves every second one of the crates without a cache.
+prove() { # CRATE...
+    while [ $# -gt 0 ]; do
+        echo "build.sh: proving $1" >&2
+        compiler check "$1" --no-cache -o "$built/records/$1" >"$built/$1.log" 2>&1 || { cat "$built/$1.log" >&2; return 1; }
+        shift
+        [ $# -eq 0 ] || shift
+    done
 }
 
 echo "build.sh: building from the records of the check" >&2
+differ=
 for c in $(crates); do
-    if build "$c" >"$built/log" 2>&1; then continue; fi
+    if build "$c" checked; then continue; fi
     if [ -z "${1:-}" ]; then
         cat "$built/log" >&2
         grep -q 'checked-crate' "$built/log" || exit 1
         echo "build.sh: a file differs from the record of $c; sh tools/build.sh --record proves what differs and writes its records" >&2
         exit 3
     fi
-    echo "build.sh: proving $c" >&2
-    compiler check "$c" --no-cache -o "checked/$c" >"$built/log" 2>&1 || { cat "$built/log" >&2; exit 1; }
-    build "$c" >"$built/log" 2>&1 || { cat "$built/log" >&2; exit 1; }
+    # over a cache first, for what those above it need: the library is the same, whichever check it is built from
+    compiler check "$c" --cache "$PWD/target/cache" -o "$built/first/$c" >"$built/log" 2>&1 || { cat "$built/log" >&2; exit 1; }
+    build "$c" "$built/first" || { cat "$built/log" >&2; exit 1; }
+    differ="$differ $c"
 done
+if [ -n "$differ" ]; then
+    # shellcheck disable=SC2086
+    (prove $differ) &
+    other=$!
+    # shellcheck disable=SC2086
+    (set -- $differ && shift && prove "$@")
+    wait "$other"
+    for c in $differ; do rm -rf "checked/$c" && mv "$built/records/$c" "checked/$c"; done
+    for c in $(crates); do build "$c" checked || { cat "$built/log" >&2; exit 1; }; done
+fi
 "$own/bin/rattle-link" --target x86_64-unknown-linux-gnu --toolchain "$own/toolchain" -o "$built/leafdrum" "$built/leafdrum.o" >"$built/log" 2>&1 || { cat "$built/log" >&2; exit 1; }
 mv -f "$built/leafdrum" target/bin/leafdrum
 mv -f "$built/libexport.a" target/staticlib/libexport.a
