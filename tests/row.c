@@ -209,12 +209,14 @@ static uint32_t some_bits(uint32_t count) {
     return mask;
 }
 
-/* A fresh table over memory of any content. Most are small, with low limits and pixels that differ in few bits: there the calls meet. */
+/* A fresh table over random words. Most are small, with low limits and pixels that differ in few bits: there the calls meet. */
 static void open_table(void) {
     static const uint32_t sizes[] = {4, 16, 16, 32, 64};
     uint32_t bits = 1, mask, base = draw(1 << 24), large = draw(500);
-    S t = {1 + draw(draw(2) ? 4 : WORKERS), 1 + draw(draw(4) ? 2 : 8), large == 0 ? NODES : 1 + draw(large < 20 ? 400 : sizes[draw(5)]), draw(9), draw(9)};
-    s = t;
+    s.workers = 1 + draw(draw(2) ? 4 : WORKERS);
+    s.limit = 1 + draw(draw(4) ? 2 : 8);
+    s.nodes = large == 0 ? NODES : 1 + draw(large < 20 ? 400 : sizes[draw(5)]);
+    s.nodes_taken = draw(9), s.levels_taken = draw(9);
     while (1u << bits < s.nodes) bits++;
     bits += draw(2);
     mask = some_bits(bits);

@@ -63,9 +63,9 @@ module _ (w : ℕ) (s : Settings) (i : ℕ) (a : Areas) where
   unfolding fullRecord ended kindNo lastOf answerOf pick
   told-of h e = rw e refl
 
-  keeps-of : (h : Head) → h ≡ fullRecord (recordOf w a i .head) .head → (h .«held_node» ≡ recordOf w a i .head .«held_node») × (h .«held_level» ≡ recordOf w a i .head .«held_level»)
-  unfolding fullRecord ended
-  keeps-of h e = rw e (refl, refl)
+  keeps-of : (h : Head) → h ≡ fullRecord (recordOf w a i .head) .head → h ≡ ended 3 0 (recordOf w a i .head .«held_node») (recordOf w a i .head)
+  unfolding fullRecord
+  keeps-of h e = e
 
   full-closes-at : firstNo (turnQuestions w s i a) ≡ 9 → Closes w s i a (full w s i a)
   unfolding full words question7 load
@@ -81,8 +81,7 @@ module _ (w : ℕ) (s : Settings) (i : ℕ) (a : Areas) where
         words-stay = words-stay;
         idle = idle-of _ (head-is q);
         told = told-of _ (head-is q);
-        node-stays = keeps-of _ (head-is q) .0;
-        level-stays = keeps-of _ (head-is q) .1;
+        head-stays = keeps-of _ (head-is q);
       }
 
 pub full-closes : (w : ℕ) → FullCloses w

@@ -103,21 +103,34 @@ module _ (w : ℕ) (x : State) (i : ℕ) where
   unfolding metSix
   is-six e = eq-eqb _ 6 e
 
+-- the turns that are left behind an entry, by its turn's number
+pub left-six : (m n : ℕ) → m ≡ 6 → leftAfter m n ≡ 0
+unfolding leftAfter
+left-six m n e = pick-true _ _ _ (eq-eqb m 6 e)
+
+pub left-eight : (m n : ℕ) → m ≡ 8 → leftAfter m n ≡ suc n
+unfolding leftAfter
+left-eight m n e = pick-false _ _ _ (ne-eqb m 6 (λ z. omega arith)) ∙ pick-true _ _ _ (eq-eqb m 8 e)
+
+pub left-other : (m n : ℕ) → m ≢ 6 → m ≢ 8 → leftAfter m n ≡ n
+unfolding leftAfter
+left-other m n h g = pick-false _ _ _ (ne-eqb m 6 h) ∙ pick-false _ _ _ (ne-eqb m 8 g)
+
 -- the entries reached behind one that met 6, was skipped, or was done
 module _ (w : ℕ) (i n : ℕ) (l : List ℕ) (x : State) where
   abbrev v : Visit
   v = visit i x
 
   pub visits-six : turnAt w v .reply .number ≡ 6 → visits w (i ∷ l) (suc n) x ≡ v ∷ []
-  unfolding visits leftAfter
-  visits-six e = ap (λ k. v ∷ visits w l k (after (turnAt w v))) (pick-true _ _ _ (eq-eqb _ _ e)) ∙ ap (λ vs. v ∷ vs) (none-left w l _)
+  unfolding visits
+  visits-six e = ap (λ k. v ∷ visits w l k (after (turnAt w v))) (left-six _ n e) ∙ ap (λ vs. v ∷ vs) (none-left w l _)
 
   pub visits-eight : turnAt w v .reply .number ≡ 8 → visits w (i ∷ l) (suc n) x ≡ v ∷ visits w l (suc n) x
-  unfolding visits leftAfter
+  unfolding visits
   visits-eight e =
-      ap (λ k. v ∷ visits w l k (after (turnAt w v))) (pick-false _ _ _ (ne-eqb (turnAt w v .reply .number) 6 (λ z. omega arith)) ∙ pick-true _ _ _ (eq-eqb _ _ e))
+      ap (λ k. v ∷ visits w l k (after (turnAt w v))) (left-eight _ n e)
       ∙ ap (λ y. v ∷ visits w l (suc n) y) (eight-leaves w (x .settings) i (x .areas) e)
 
   pub visits-other : turnAt w v .reply .number ≢ 6 → turnAt w v .reply .number ≢ 8 → visits w (i ∷ l) (suc n) x ≡ v ∷ visits w l n (after (turnAt w v))
-  unfolding visits leftAfter
-  visits-other h g = ap (λ k. v ∷ visits w l k (after (turnAt w v))) (pick-false _ _ _ (ne-eqb _ 6 h) ∙ pick-false _ _ _ (ne-eqb _ 8 g))
+  unfolding visits
+  visits-other h g = ap (λ k. v ∷ visits w l k (after (turnAt w v))) (left-other _ n h g)

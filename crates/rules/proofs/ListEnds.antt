@@ -1,6 +1,6 @@
 -- How far a list of turns comes, and what its entries find, skip and count.
 -- Relies on that questions 1 to 3 stay answered yes over a turn, and on the laws of an entry by its turn's number.
-use Prim.Native.Nat.{ℕ, zero, suc, _+_, _≤_}
+use Prim.Native.Nat.{ℕ, zero, suc, _+_, _≤_, _<_}
 use mathlib.Core.Path.{_≡_, refl, sym, ap, subst, _∙_}
 use mathlib.Core.Logic.{_≢_, _⊎_, inl, inr}
 use mathlib.Core.Bool.{true, false, not}
@@ -20,7 +20,7 @@ use Rattle.rules.proofs.OneTurn.{eight-leaves}
 use Rattle.rules.proofs.Visits.{six-uncounted, not-empty}
 use Rattle.rules.proofs.ManyTurns.{list-carried}
 use Rattle.rules.proofs.Three.{Three, three-stays, below-workers}
-use Rattle.rules.proofs.Entries.{Outcome, outcome, done-open, eight-uncounted, open-counted, no-six, is-six, visits-six, visits-eight, visits-other}
+use Rattle.rules.proofs.Entries.{Outcome, outcome, done-open, eight-uncounted, open-counted, no-six, is-six, left-six, left-eight, left-other, visits-six, visits-eight, visits-other}
 
 -- questions 1 to 4 of the list l at the state x
 record Yes (w workers : ℕ) (l : List ℕ) (x : State) : Type 0 where
@@ -42,6 +42,25 @@ first-outcome {w} {workers} {i} {l} {x} y =
     let q = y .three in
     outcome w x i (q .one) (q .two) (q .three) (below-workers i q (both-left _ _ (y .four)))
 
+-- the turns done before the entries behind the first one
+one-less : (w : ℕ) (x : State) (i n : ℕ) {k : ℕ} → Outcome w x i → k < leftAfter (turnAt w (visit i x) .reply .number) n → pick (counts w (visit i x)) 1 0 + k < suc n
+one-less w x i n {k} o h = by o
+  where
+    other : (turnAt w (visit i x) .reply .number ≡ 0) ⊎ (turnAt w (visit i x) .reply .number ≡ 9) → turnAt w (visit i x) .reply .number ≢ 6 → turnAt w (visit i x) .reply .number ≢ 8 → pick (counts w (visit i x)) 1 0 + k < suc n
+    other d p q =
+        let c : _≡_ {A = ℕ} (pick (counts w (visit i x)) 1 0) 1 = pick-true _ _ _ (open-counted w x i (done-open w x i d) p) in
+        let l : k < n = rw (left-other _ n p q) at h in
+        omega arith
+
+    by : Outcome w x i → pick (counts w (visit i x)) 1 0 + k < suc n
+    by (inl e) = other (inl e) (λ z. omega arith) (λ z. omega arith)
+    by (inr (inl e)) = other (inr e) (λ z. omega arith) (λ z. omega arith)
+    by (inr (inr (inl e))) =
+        let c : _≡_ {A = ℕ} (pick (counts w (visit i x)) 1 0) 0 = pick-false _ _ _ (eight-uncounted w x i e) in
+        let l : k < suc n = rw (left-eight _ n e) at h in
+        omega arith
+    by (inr (inr (inr e))) = let l : k < 0 = rw (left-six _ n e) at h in absurd (omega arith)
+
 -- an entry that is reached finds what those before it left, and its questions 1 to 4 are answered yes
 entry-at : (w : ℕ) (l : List ℕ) (n : ℕ) (x : State) {workers : ℕ} → Yes w workers l x → AtEach w l n x (λ before v. (v .before ≡ endState w x before) × Outcome w (v .before) (v .worker))
 unfolding visits endState
@@ -55,6 +74,17 @@ entry-at w (i ∷ l) (suc n) x y (u ∷ before) v more e =
     let q : visits w l (leftAfter (turnAt w (visit i x) .reply .number) n) (after (turnAt w (visit i x))) ≡ before ++ v ∷ more = cc in
     let (f, o) = entry-at w l _ _ (step y) before v more q in
     (f ∙ ap (λ (t : Visit). endState w (after (turnAt w t)) before) p, o)
+
+-- and fewer turns are done before it than the limit
+below-at : (w : ℕ) (l : List ℕ) (n : ℕ) (x : State) {workers : ℕ} → Yes w workers l x → AtEach w l n x (λ before v. turnsDone w before < n)
+unfolding visits turnsDone
+below-at w [] n x y before v more e = absurd (not-empty before v more e)
+below-at w (i ∷ l) zero x y before v more e = absurd (not-empty before v more e)
+below-at w (i ∷ l) (suc n) x y [] v more e = omega arith
+below-at w (i ∷ l) (suc n) x y (u ∷ before) v more e =
+    let p : visit i x ≡ u = cc in
+    let q : visits w l (leftAfter (turnAt w (visit i x) .reply .number) n) (after (turnAt w (visit i x))) ≡ before ++ v ∷ more = cc in
+    subst (λ (t : Visit). pick (counts w t) 1 0 + turnsDone w before < suc n) p (one-less w x i n (first-outcome y) (below-at w l _ _ (step y) before v more q))
 
 -- how far the entries reached come
 record Comes (w : ℕ) (l : List ℕ) (n : ℕ) (vs : List Visit) : Type 0 where
@@ -144,6 +174,9 @@ lists-end w s l limit a y =
       finds = λ before v more e. entry-at w l limit (state s a) four before v more e .0;
       within = rw c (m .within);
       ends = rw c (m .ends);
+      counted = ap (λ r. r .reply .turns) c;
+      left = ap after c;
+      below = below-at w l limit (state s a) four;
       numbers = λ before v more e. entry-at w l limit (state s a) four before v more e .1;
       skipped = λ before v more e z. (eight-leaves w (v .before .settings) (v .worker) (v .before .areas) z, eight-uncounted w (v .before) (v .worker) z);
       done = λ before v more e. counted w v;

@@ -1,7 +1,7 @@
 -- What an opening leaves alone, and that the settings of a refused one are refused by every operation.
 -- Relies on demand 1, and on what a write below the sizes leaves.
 use Prim.Native.Nat.{ℕ}
-use mathlib.Core.Path.{refl}
+use mathlib.Core.Path.{_≡_, refl, sym, subst, _∙_}
 use mathlib.Core.Logic.{_≢_}
 use mathlib.Core.Bool.{Bool}
 use mathlib.Core.List.{List, [], _∷_}
@@ -9,12 +9,13 @@ use native.Mathlib.Omega.{arith}
 use native.Mathlib.Nat.{mul-one}
 use Rattle.words.specs.Choice.{Question, asks}
 use Rattle.words.proofs.Choice.{pick-both}
-use Rattle.areas.specs.Memory.{none}
+use Rattle.settings.specs.declared.Settings.{Settings}
+use Rattle.areas.specs.Memory.{Areas, none}
 use Rattle.rules.specs.Opening.{openedAreas}
 use Rattle.rules.specs.Operations.{Result, unlessRefused, opening, openingQuestions, startQuestions, turnQuestions, lastQuestions}
 use Rattle.rules.specs.Lists.{listQuestions}
 use Rattle.rules.specs.Refusals.{FirstNo, here, later}
-use Rattle.rules.specs.Openings.{Keeps, OpeningKeeps, RefusedOpenings}
+use Rattle.rules.specs.Openings.{Keeps, OpeningKeeps, RefusedAlike, RefusedOpenings}
 use Rattle.rules.proofs.OneTurn.{refuses-turn}
 use Rattle.rules.proofs.ManyTurns.{refuses-list}
 use Rattle.rules.proofs.Refused.{refuses-opening, refuses-start, refuses-last}
@@ -37,9 +38,10 @@ below-six : {n : ℕ} (b c : Bool) → FirstNo n (asks 1 b ∷ asks 2 c ∷ []) 
 below-six b c (here e y) z = omega arith
 below-six b c (later y (here e x)) z = omega arith
 
-pub refused-openings : (w : ℕ) → RefusedOpenings w
+-- the settings and areas that it was handed
+handed : (w : ℕ) (s : Settings) (a : Areas) (n : ℕ) → n ≢ 0 → opening w s a .reply .number ≡ n → RefusedAlike w s a n
 unfolding openingQuestions startQuestions turnQuestions lastQuestions listQuestions
-refused-openings w s a n h e =
+handed w s a n h e =
     let f = refuses-opening w s a .numbered .refusal n h .0 e in
     let six = below-six _ _ f in
     record {
@@ -49,3 +51,9 @@ refused-openings w s a n h e =
       of-last = λ i. refuses-last w s i a .numbered .refusal n h .1 (first-two _ _ _ f);
       not-6 = six;
     }
+
+-- are those that it gives back and leaves
+pub refused-openings : (w : ℕ) → RefusedOpenings w
+refused-openings w s a n h e =
+    let u = refuses-opening w s a .unchanged (λ z. h (sym e ∙ z)) .0 in
+    subst (λ (r : Result). RefusedAlike w (r .reply .settings) (r .areas) n) (sym u) (handed w s a n h e)

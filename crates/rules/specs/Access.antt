@@ -20,6 +20,6 @@ pub data Access (w : ℕ) (s : Settings) (m : Memory) (s′ : Settings) (m′ : 
   next-level : (previous depth : ℕ) → s′ ≡ tookLevel s → m′ ≡ memory (m .nodes) (fillLevel w (m .levels) (s .«levels_taken») previous depth) → Access w s m s′ m′
   spare-level : (g previous depth : ℕ) → s′ ≡ s → m′ ≡ memory (m .nodes) (fillLevel w (m .levels) g previous depth) → Access w s m s′ m′
 
--- excludes: a machine that runs a whole call in one turn; one that writes the entry in H in the turn that sets the last node
+-- excludes: a machine that runs a whole call that places a pixel in one turn; one that writes the entry in H in the turn that sets the last node
 abbrev pub OneAccess : ℕ → Type 0
 OneAccess w = (s : Settings) (i : ℕ) (a : Areas) → Access w s (memoryOf a) (turn w s i a .reply .settings) (memoryOf (turn w s i a .areas))

@@ -33,8 +33,8 @@ runAlone w (suc n) i x =
     (runAlone w n i (after (turn w (x .settings) i (x .areas))))
     (turn w (x .settings) i (x .areas))
 
--- Turns that are enough: for each level of the table and one more, at each depth and two more, a walk at each depth for each node of a chain and one more,
--- of four turns at each place and six more
+-- Turns that are enough: for each level of the table and one more, at each depth and two more, for each node of a chain and one more, a walk at each depth and
+-- one more, of four turns at each place and six more
 unfoldable pub aloneTurns : ℕ → Settings → ℕ
 aloneTurns w s =
     (depths w + 2) * ((4 * (s .limit * depths w) + 6) * (depths w + 1) * (s .limit + 1)) * (levelCount w s + 1)
@@ -54,7 +54,7 @@ pub record EndsAlone (w n i : ℕ) (x : State) : Type 0 where
   pub ends : endingAnswer (happens w (turns i) (stateAfter w (turnsOf i before) x) .reply .answer) ≡ 1
   pub run-is : runAlone w n i x ≡ happens w (turns i) (stateAfter w (turnsOf i before) x)
 
--- "That a call with all turns to itself ends, from every state a sequence can reach, is part of the work."
+-- Document 02, request 13: "That a call with all turns to itself ends, from every state a sequence can reach, is part of the work."
 abbrev pub AloneStatement : ℕ → Type 0
 AloneStatement w =
     (s : Settings) (a : Areas) → opening w s a .reply .number ≡ 0

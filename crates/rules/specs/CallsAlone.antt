@@ -23,7 +23,7 @@ use Rattle.rules.specs.Alone.{runAlone, aloneTurns}
 abbrev pub Place : Type 0
 Place = ℕ × ℕ
 
--- the place within its first equal pixel in the list; its length where there is none
+-- the place of the first equal pixel in the list; the list's length where there is none
 unfoldable pub indexOf : ℕ → List ℕ → ℕ
 indexOf p [] = 0
 indexOf p (q ∷ l) = pick (eqb q p) 0 (suc (indexOf p l))
@@ -74,7 +74,7 @@ unfoldable pub AllInside : List Place → Type 0
 AllInside [] = Unit {0}
 AllInside (p ∷ ps) = (question5 (p .0) (p .1) ≡ true) × AllInside ps
 
--- for every worker of the table and every list of places
+-- the calls of worker i for the places ps, from the state x that an opening with the settings s left
 pub record ListLike (w : ℕ) (s : Settings) (x : State) (i : ℕ) (ps : List Place) : Type 0 where
   -- excludes: a call that is answered with another node than the pixel's place in order of arrival
   pub answers : answersAlone w (aloneTurns w s) i ps x ≡ flatAnswers (s .nodes) [] ps

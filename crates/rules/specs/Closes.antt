@@ -1,4 +1,4 @@
--- Demand 1's one exception: ""full" closes its call" and changes nothing else, over settings and memory of any content.
+-- "Number 9 alone makes the worker idle with answer "full".", and changes nothing else, over settings and memory of any content.
 -- Relies on the operations' definitions, on settings for the sizes.
 use Prim.Native.Nat.{ℕ, _+_, _*_, _≤_, _<_}
 use mathlib.Core.Path.{_≡_}
@@ -9,6 +9,7 @@ use Rattle.settings.specs.Sizes.{workerWords}
 use Rattle.settings.specs.declared.Settings.{Settings}
 use Rattle.areas.specs.Memory.{Areas}
 use Rattle.record.specs.declared.Answer.the-variants.{Full}
+use Rattle.rules.specs.Heads.{ended}
 use Rattle.rules.specs.Asked.{question7}
 use Rattle.rules.specs.Operations.{Result, recordOf, turn, lastOf}
 
@@ -23,9 +24,8 @@ pub record Closes (w : ℕ) (s : Settings) (i : ℕ) (a : Areas) (r : Result) : 
   -- the worker is idle, and its last answer is "full"
   pub idle : question7 (recordOf w (r .areas) i) ≡ true
   pub told : lastOf (recordOf w (r .areas) i .head) ≡ Full
-  -- and it keeps what it holds
-  pub node-stays : recordOf w (r .areas) i .head .«held_node» ≡ recordOf w a i .head .«held_node»
-  pub level-stays : recordOf w (r .areas) i .head .«held_level» ≡ recordOf w a i .head .«held_level»
+  -- of the head nothing else changes: the worker keeps what it holds
+  pub head-stays : recordOf w (r .areas) i .head ≡ ended 3 0 (recordOf w a i .head .«held_node») (recordOf w a i .head)
 
 -- every turn that is given 9
 -- excludes: a "full" that loses the worker's spare level; one that leaves the call open

@@ -30,4 +30,4 @@ pub record RefusedAlike (w : ℕ) (s : Settings) (a : Areas) (n : ℕ) : Type 0 
   pub not-6 : n ≢ 6
 
 abbrev pub RefusedOpenings : ℕ → Type 0
-RefusedOpenings w = (s : Settings) (a : Areas) (n : ℕ) → n ≢ 0 → opening w s a .reply .number ≡ n → RefusedAlike w s a n
+RefusedOpenings w = (s : Settings) (a : Areas) (n : ℕ) → n ≢ 0 → opening w s a .reply .number ≡ n → RefusedAlike w (opening w s a .reply .settings) (opening w s a .areas) n

@@ -50,7 +50,7 @@ pub record MetSix (w : ℕ) (s : Settings) (l : List ℕ) (limit : ℕ) (a : Are
   pub left : after (turns w s l limit a) ≡ last .before
   pub done : turns w s l limit a .reply .turns ≡ turnsDone w before
 
--- a list of turns: 0 exactly when it comes to its end or its limit; 1 to 4 as above and before any turn; 6 exactly when an entry meets it; no other number
+-- a list of turns: 0 exactly when questions 1 to 4 are answered yes and no entry reached meets 6; 1 to 4 as above and before any turn; 6 exactly when an entry meets it; no other number
 pub record RefusesList (w : ℕ) (s : Settings) (l : List ℕ) (limit : ℕ) (a : Areas) : Type 0 where
   pub carried : Iff (turns w s l limit a .reply .number ≡ 0) (AllYes (listQuestions w s l a) × (every (λ v. not (metSix w v)) (visits w l limit (state s a)) ≡ true))
   pub refusal : (n : ℕ) → n ≢ 0 → n ≢ 6 → Iff (turns w s l limit a .reply .number ≡ n) (FirstNo n (listQuestions w s l a))

@@ -9,7 +9,7 @@ use native.Mathlib.Omega.{arith}
 use lib.Dec.{eqb, leb}
 use lib.ListN.{length, take, drop, length-drop}
 use lib.Seq.{take-all, drop-drop}
-use borrow.Author.Tests.{le-leb, lt-leb, leb-true, eq-eqb, ne-eqb, ltb-true}
+use borrow.Author.Tests.{le-leb, lt-leb, leb-true, eq-eqb, ne-eqb, ltb-true, lt-ltb}
 use Rattle.words.specs.Choice.{pick, both}
 use Rattle.words.proofs.Choice.{true-false, both-left, both-right, both-true}
 use Rattle.settings.specs.Sizes.{fresh}
@@ -136,7 +136,7 @@ module _ (p : Progress) (input : List ℕ) (a : Areas) where
   pub begin-long :
       {r : Told} → r ≡ told Header (progress TooLong (p .line) (p .at) (p .settings)) → p .stage ≡ Begin → 65536 < length input → Prints p input a r a
   unfolding remainingAt leftAt canStandAt prints pick
-  begin-long f e h = tells e f (simp (lt-leb _ _ h)) refl (omega arith)
+  begin-long f e h = tells e f (simp (lt-leb _ _ h)) (lt-ltb _ _ h) (omega arith)
 
   pub too-long :
       {r : Told} → r ≡ told (Refused 0 10) (progress Done (p .line) (p .at) (p .settings)) → p .stage ≡ TooLong → Prints p input a r a
@@ -227,16 +227,16 @@ module _ (p : Progress) (input : List ℕ) (a : Areas) where
   pub rest-told :
       {r : Told} {k : List ℕ} {x : Bool}
       → r ≡ pick (eqb (length k) 0) (told (End (p .settings .«nodes_taken») (p .settings .«levels_taken»)) (progress Done (p .line) (p .at) (p .settings))) (told (Refused (p .line) 10) (progress Last (p .line) (p .at) (p .settings)))
-      → x ≡ has 10 k → x ≡ false → k ≡ drop (p .at) input → p .stage ≡ Lines → Prints p input a r a
-  unfolding remainingAt leftAt canStandAt restPrints linesPrint pick
-  rest-told {r} f w v n e = go (drop (p .at) input) refl (split-none 10 (drop (p .at) input) (rw n at (sym w ∙ v))) (rw n at f)
+      → x ≡ has 10 k → x ≡ false → k ≡ drop (p .at) input → p .stage ≡ Lines → counted p (length input) ≡ true → Prints p input a r a
+  unfolding remainingAt leftAt canStandAt counted restPrints linesPrint pick
+  rest-told {r} f w v n e c = go (drop (p .at) input) refl (split-none 10 (drop (p .at) input) (rw n at (sym w ∙ v))) (rw n at f)
     where
       go :
           (l : List ℕ) → drop (p .at) input ≡ l → split 10 (drop (p .at) input) ≡ drop (p .at) input ∷ []
           → r ≡ pick (eqb (length (drop (p .at) input)) 0) (told (End (p .settings .«nodes_taken») (p .settings .«levels_taken»)) (progress Done (p .line) (p .at) (p .settings))) (told (Refused (p .line) 10) (progress Last (p .line) (p .at) (p .settings)))
           → Prints p input a r a
       go [] i j g = tells e (rw i at g) (rw (j, i) refl) refl (omega arith)
-      go (n ∷ l) i j g = tells e (simp (i, ne-eqb (suc (length l)) 0 (λ z. omega arith)) at g) (rw (j, i) refl) refl (omega arith)
+      go (n ∷ l) i j g = tells e (simp (i, ne-eqb (suc (length l)) 0 (λ z. omega arith)) at g) (rw (j, i) refl) c (omega arith)
 
   -- no bytes there are the end, others a line that is refused
   pub rest-end :
@@ -255,21 +255,16 @@ module _ (p : Progress) (input : List ℕ) (a : Areas) where
   stands-lines h e = subst (λ (g : Stage). canStandAt g p input ≡ true) e h
 
   -- the test of that, by the stage
-  pub stand-first : {x : Bool} → x ≡ leb (length input) 65536 → p .stage ≡ First → x ≡ canStand p input
-  unfolding canStandAt
-  stand-first f e = f ∙ ap (λ (g : Stage). canStandAt g p input) (sym e)
+  pub stand-at : {g : Stage} {x : Bool} → x ≡ canStandAt g p input → p .stage ≡ g → x ≡ canStand p input
+  stand-at f e = f ∙ ap (λ (g : Stage). canStandAt g p input) (sym e)
 
-  pub stand-lines : {x : Bool} → x ≡ counted p (length input) → p .stage ≡ Lines → x ≡ canStand p input
-  unfolding canStandAt
-  stand-lines f e = f ∙ ap (λ (g : Stage). canStandAt g p input) (sym e)
-
-  pub stand-other : (g : Stage) → OneOf (0 ∷ 1 ∷ 4 ∷ 5 ∷ []) (tagOf the-type g) → true ≡ canStandAt g p input
+  pub stand-other : (g : Stage) → OneOf (0 ∷ 5 ∷ []) (tagOf the-type g) → true ≡ canStandAt g p input
   unfolding canStandAt
   stand-other Begin k = refl
-  stand-other TooLong k = refl
-  stand-other First k = absurd (miss (0 ∷ 1 ∷ 4 ∷ 5 ∷ []) 2 tt k)
-  stand-other Lines k = absurd (miss (0 ∷ 1 ∷ 4 ∷ 5 ∷ []) 3 tt k)
-  stand-other Last k = refl
+  stand-other TooLong k = absurd (miss (0 ∷ 5 ∷ []) 1 tt k)
+  stand-other First k = absurd (miss (0 ∷ 5 ∷ []) 2 tt k)
+  stand-other Lines k = absurd (miss (0 ∷ 5 ∷ []) 3 tt k)
+  stand-other Last k = absurd (miss (0 ∷ 5 ∷ []) 4 tt k)
   stand-other Done k = refl
 
   -- one thing is printed where the run goes on and can stand

@@ -4,7 +4,7 @@ use Prim.Native.Nat.{ℕ, _+_, _-_, _<_}
 use mathlib.Core.Path.{_≡_}
 use mathlib.Core.Bool.{Bool, true, false}
 use mathlib.Core.List.{List, [], _∷_}
-use lib.Dec.{leb}
+use lib.Dec.{leb, ltb}
 use lib.ListN.{length, drop}
 use Rattle.words.specs.Choice.{both}
 use Rattle.settings.specs.Sizes.{fresh}
@@ -71,13 +71,13 @@ goesOn Done = false
 unfoldable pub counted : Progress → ℕ → Bool
 counted p n = both (leb n 65536) (both (leb (p .at) n) (leb (p .line) (p .at + 1)))
 
--- where a run can stand, from its beginning on: an input that is too long has no lines to read
+-- where a run can stand, from its beginning on: an input that is too long has no lines to read, one that is not is not refused for it
 unfoldable pub canStandAt : Stage → Progress → List ℕ → Bool
 canStandAt Begin p input = true
-canStandAt TooLong p input = true
+canStandAt TooLong p input = ltb 65536 (length input)
 canStandAt First p input = leb (length input) 65536
 canStandAt Lines p input = counted p (length input)
-canStandAt Last p input = true
+canStandAt Last p input = counted p (length input)
 canStandAt Done p input = true
 
 -- whether a run over this input can stand there

@@ -357,8 +357,10 @@ fn can_stand(p: Progress, input: &[u8]) -> bool
 {
     let g = p.stage;
     match g {
+        Stage::TooLong => 65536 < input.len(),
         Stage::First => input.len() <= 65536,
         Stage::Lines => counted(p, input.len()),
+        Stage::Last => counted(p, input.len()),
         _ => true,
     }
 }
@@ -385,7 +387,7 @@ fn advance(
     }
 }
 
-// What is printed next, and where the run stands then. A progress that no run can have prints nothing and is done.
+// What is printed next, and where the run stands then. A progress that its input does not allow prints nothing and is done.
 pub fn next(
     p: Progress,
     input: &[u8],
