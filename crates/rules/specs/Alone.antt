@@ -1,5 +1,5 @@
 -- A call with all turns to itself: its turns up to the one that ends it, and how many these are at most.
--- Relies on the definitions of a turn and of a sequence.
+-- Relies on the definitions of a turn and of a sequence. What is quoted is document 02, request 13.
 use Prim.Native.Nat.{ℕ, zero, suc, _+_, _*_, _<_}
 use mathlib.Core.Path.{_≡_}
 use mathlib.Core.Bool.{Bool, true, false}
@@ -54,7 +54,7 @@ pub record EndsAlone (w n i : ℕ) (x : State) : Type 0 where
   pub ends : endingAnswer (happens w (turns i) (stateAfter w (turnsOf i before) x) .reply .answer) ≡ 1
   pub run-is : runAlone w n i x ≡ happens w (turns i) (stateAfter w (turnsOf i before) x)
 
--- Document 02, request 13: "That a call with all turns to itself ends, from every state a sequence can reach, is part of the work."
+-- "That a call with all turns to itself ends, from every state a sequence can reach, is part of the work."
 abbrev pub AloneStatement : ℕ → Type 0
 AloneStatement w =
     (s : Settings) (a : Areas) → opening w s a .reply .number ≡ 0
