@@ -59,6 +59,7 @@ prove() { # CRATE...
 }
 
 echo "build.sh: building from the records of the check" >&2
+mkdir "$built/first" "$built/records"
 differ=
 for c in $(crates); do
     if build "$c" checked; then continue; fi
