@@ -3,11 +3,14 @@
 use Prim.Native.Nat.{ℕ}
 use mathlib.Core.Path.{refl}
 use mathlib.Core.List.{List, []}
+use native.Mathlib.Nat.{mod-lt}
 use lib.Dec.{eqb}
+use Rattle.words.specs.Digits.{digit}
 use Rattle.words.proofs.Choice.{pick-both}
 use Rattle.settings.specs.declared.Settings.{Settings}
-use Rattle.areas.specs.Memory.{Memory, isNode}
+use Rattle.areas.specs.Memory.{Memory, isNode, entryCell}
 use Rattle.areas.specs.declared.Cell.{Cell}
+use Rattle.areas.specs.declared.Cell.the-variants.{Next}
 use Rattle.record.specs.declared.Kind.{Kind}
 use Rattle.record.specs.declared.Kind.the-variants.{Idle, Look, Take, Put, Read, Tail, TakeTail, Append, Level, Close, Follow, ChainHead, ChainNext, SetNext, SetLook, SetPut, SetRead, SetTail, SetAppend, SetLevel, SetClose, SetFollow, MoveEnd, Unknown}
 use Rattle.record.specs.declared.Head.{Head}
@@ -18,8 +21,9 @@ use Rattle.rules.specs.Searching as searching
 use Rattle.rules.specs.Moving as moving
 use Rattle.rules.specs.Acts.{actBy, act}
 use Rattle.rules.specs.Operations.{Result, recordOf, memoryOf, unlessRefused, taken, full, turn}
-use Rattle.rules.specs.Access.{Access, OneAccess}
+use Rattle.rules.specs.Access.{Inside, Access, OneAccess}
 use Rattle.rules.specs.Access as access
+use Rattle.rules.proofs.Dims.{base-pos}
 
 module _ (w : ℕ) (s : Settings) (h : Head) (m : Memory) where
   abbrev By : Step → Type 0
@@ -28,9 +32,14 @@ module _ (w : ℕ) (s : Settings) (h : Head) (m : Memory) where
   still : Access w s m s m
   still = access.none refl refl
 
-  placed-by : (k : Kind) (x : Cell) → By (searching.placed w k s h x m)
+  -- a pixel's digit is the number of an entry
+  picked : (levels : List ℕ) (g p : ℕ) → Inside w (entryCell w levels g p)
+  unfolding entryCell digit
+  picked levels g p = mod-lt _ (base-pos w)
+
+  placed-by : (k : Kind) (x : Cell) → Inside w x → By (searching.placed w k s h x m)
   unfolding searching.placed
-  placed-by k x = pick-both By (expected h _) (λ e. access.cell x _ refl refl) (λ e. still)
+  placed-by k x i = pick-both By (expected h _) (λ e. access.cell x _ i refl refl) (λ e. still)
 
   met-by : (c g word : ℕ) → By (searching.met s h c g word m)
   unfolding searching.met searching.metNode
@@ -46,41 +55,41 @@ module _ (w : ℕ) (s : Settings) (h : Head) (m : Memory) where
 
   closed-by : (k : Kind) (ms : List Move) → By (closed w k s h ms m)
   unfolding closed
-  closed-by k ms = pick-both By (expected h _) (λ e. access.cell _ _ refl refl) (λ e. still)
+  closed-by k ms = pick-both By (expected h _) (λ e. access.cell (Next (h .node)) _ tt refl refl) (λ e. still)
 
   chain-by : (v : Move) (os : List Move) (word : ℕ) → By (moving.chainWord s h v os word m)
   unfolding moving.chainWord moving.setLast
   chain-by v os word = pick-both By (isNode word) (λ e. still) (λ e. still)
 
-  set-by : (k : Kind) (v : Move) (os : List Move) (x : Cell) → By (moving.setNode w k s h v os x m)
+  set-by : (k : Kind) (v : Move) (os : List Move) (x : Cell) → Inside w x → By (moving.setNode w k s h v os x m)
   unfolding moving.setNode moving.setLast
-  set-by k v os x = pick-both By (expected h _) (λ e. access.cell x _ refl refl) (λ e. still)
+  set-by k v os x i = pick-both By (expected h _) (λ e. access.cell x _ i refl refl) (λ e. still)
 
   kind-by : (k : Kind) (ms : List Move) → By (actBy k w s h ms m)
-  unfolding actBy searching.look searching.take searching.put searching.read searching.readWord searching.tail searching.takeTail searching.append searching.level searching.close searching.follow searching.followWord moving.chainHead moving.chainNext moving.setNext moving.setLook moving.setPut moving.setRead moving.setReadWord moving.setMet moving.setTail moving.setAppend moving.setLevel moving.setClose moving.setFollow moving.setFollowWord moving.moveEnd
+  unfolding actBy searching.entryOf moving.homeCell moving.setCellOf searching.look searching.take searching.put searching.read searching.readWord searching.tail searching.takeTail searching.append searching.level searching.close searching.follow searching.followWord moving.chainHead moving.chainNext moving.setNext moving.setLook moving.setPut moving.setRead moving.setReadWord moving.setMet moving.setTail moving.setAppend moving.setLevel moving.setClose moving.setFollow moving.setFollowWord moving.moveEnd
   kind-by Idle ms = still
   kind-by Look ms = still
   kind-by Take ms = take-by Put
-  kind-by Put ms = placed-by Read _
+  kind-by Put ms = placed-by Read _ (picked _ _ _)
   kind-by Read ms = met-by _ _ _
   kind-by Tail ms = still
   kind-by TakeTail ms = take-by Append
-  kind-by Append ms = placed-by Follow _
+  kind-by Append ms = placed-by Follow (Next _) tt
   kind-by Level ms = level-by Close []
   kind-by Close ms = closed-by Follow []
   kind-by Follow ms = met-by _ _ _
   kind-by ChainHead ms = chain-by _ _ _
   kind-by ChainNext ms = chain-by _ _ _
-  kind-by SetNext ms = access.cell _ _ refl refl
+  kind-by SetNext ms = access.cell (Next _) _ tt refl refl
   kind-by SetLook ms = still
-  kind-by SetPut ms = set-by SetRead _ _ _
+  kind-by SetPut ms = set-by SetRead _ _ _ (picked _ _ _)
   kind-by SetRead ms = still
   kind-by SetTail ms = still
-  kind-by SetAppend ms = set-by SetFollow _ _ _
+  kind-by SetAppend ms = set-by SetFollow _ _ (Next _) tt
   kind-by SetLevel ms = level-by SetClose _
   kind-by SetClose ms = closed-by SetFollow _
   kind-by SetFollow ms = still
-  kind-by MoveEnd ms = access.cell _ _ refl refl
+  kind-by MoveEnd ms = access.cell _ _ (picked _ _ _) refl refl
   kind-by Unknown ms = still
 
 pub one-access : (w : ℕ) → OneAccess w

@@ -1,55 +1,116 @@
 -- "full" closes its call and changes nothing else.
 -- Relies on demand 1 of one turn and on the laws of load and store.
-use Prim.Native.Nat.{ℕ, _+_, _*_, _≤_, _<_}
-use mathlib.Core.Path.{_≡_, refl, sym, subst, _∙_}
-use mathlib.Core.Logic.{_⊎_, inl, inr}
-use mathlib.Core.Bool.{true}
+use Prim.Native.Nat.{ℕ, _+_, _-_, _*_, _≤_, _<_}
+use mathlib.Core.Path.{_≡_, refl, sym, ap, subst, _∙_}
+use mathlib.Core.Logic.{_≢_}
+use mathlib.Core.Bool.{Bool, true, false}
 use mathlib.Core.List.{List}
 use native.Mathlib.Omega.{arith}
-use lib.Dec.{eqb}
+use lib.Dec.{eqb, leb, ltb}
 use lib.ListN.{length, getD}
-use borrow.Author.Tests.{leb-true, ltb-true}
+use borrow.Author.Tests.{leb-true, leb-false, ltb-true, ltb-false, eqb-true}
+use Rattle.words.specs.Blocks.{cells}
 use Rattle.words.specs.Choice.{pick, firstNo}
-use Rattle.words.proofs.Choice.{both-right}
+use Rattle.words.proofs.Blocks.{getD-cells}
+use Rattle.words.proofs.Choice.{pick-both, both-left, both-right}
 use Rattle.settings.specs.Sizes.{workerWords, question2}
 use Rattle.settings.specs.declared.Settings.{Settings}
 use Rattle.areas.specs.Memory.{Areas}
 use Rattle.record.specs.declared.Answer.the-variants.{Full}
 use Rattle.record.specs.Kinds.{kindNo, answerOf}
 use Rattle.record.specs.declared.Head.{Head}
-use Rattle.record.specs.Layout.{load, store, storeMoves, workerPlace, headAt}
+use Rattle.record.specs.Layout.{Record, load, store, storeMoves, workerPlace, headAt, headFrom, headList, movesAt}
+use Rattle.record.specs.Fits.{fits, fitsBy}
 use Rattle.record.proofs.Apart.{before, after, room, place-next}
-use Rattle.record.proofs.Pieces.{head-outside}
-use Rattle.record.proofs.Records.{length-store, head-stored}
+use Rattle.record.proofs.Pieces.{length-first, head-outside}
+use Rattle.record.proofs.Records.{length-store, store-head, head-stored}
 use Rattle.rules.specs.Heads.{ended}
-use Rattle.rules.specs.Asked.{question4, question7}
+use Rattle.rules.specs.Asked.{question4, question6, question7}
 use Rattle.rules.specs.Operations.{Result, recordOf, turnQuestions, full, fullRecord, lastOf}
 use Rattle.rules.specs.Closes.{Closes, FullCloses}
-use Rattle.rules.proofs.Questions.{first-later}
+use Rattle.rules.proofs.Questions.{last-no}
 use Rattle.rules.proofs.OneTurn.{turn-number, nine-is-full}
+use Rattle.rules.proofs.TurnAsked.{TurnAsked, turn-asked}
+use Rattle.rules.proofs.KindNumbers.{Takes, takes-low}
+use Rattle.rules.proofs.Ending.{takes-number, none-left}
+
+-- a number that is not below c is c, or above it
+at-or-above : (P : ℕ → Type 0) (j c : ℕ) → c ≤ j → P c → (c < j → P j) → P j
+at-or-above P j c l y n = by (ltb c j) refl
+  where
+    by : (b : Bool) → ltb c j ≡ b → P j
+    by true e = n (ltb-true _ _ e)
+    by false e = let u : j ≤ c = ltb-false _ _ e in let q : c ≡ j = omega arith in subst P q y
+
+-- the record of a worker that is to take a node has no Move, where it fits
+no-moves : (w : ℕ) (s : Settings) (r : Record) (k : ℕ) → Takes k → fitsBy w s k r ≡ true → length (r .moves) ≡ 0
+unfolding fitsBy
+no-moves w s r k t =
+    let l : 0 < k = takes-low t .0 in
+    let u : k < 7 = takes-low t .1 in
+    let Fits : Bool → Type 0 = λ b. b ≡ true → length (r .moves) ≡ 0 in
+    pick-both Fits (eqb k 0)
+    (λ e y. let z : k ≡ 0 = eqb-true _ _ e in absurd (omega arith))
+    (λ e. pick-both Fits (leb k 10) (λ f y. eqb-true _ _ (both-right _ _ y)) (λ f y. let z : 10 < k = leb-false _ _ f in absurd (omega arith)))
 
 module _ (w : ℕ) (s : Settings) (i : ℕ) (a : Areas) where
   -- the worker's words are there
-  there : firstNo (turnQuestions w s i a) ≡ 9 → workerWords w * i + workerWords w ≤ length (a .workers)
-  unfolding turnQuestions question2 question4
-  there e =
-      let (y₁, e₁) = first-later 1 _ _ (λ z. omega arith) e in
-      let (y₂, e₂) = first-later 2 _ _ (λ z. omega arith) e₁ in
-      let (y₃, e₃) = first-later 3 _ _ (λ z. omega arith) e₂ in
-      let (y₄, e₄) = first-later 4 _ _ (λ z. omega arith) e₃ in
-      let n : workerWords w * s .workers ≤ length (a .workers) = leb-true _ _ (both-right _ _ (both-right _ _ y₂)) in
-      let b : i < s .workers = ltb-true _ _ y₄ in
+  there : TurnAsked w s i a 9 → workerWords w * i + workerWords w ≤ length (a .workers)
+  unfolding question2 question4
+  there y =
+      let n : workerWords w * s .workers ≤ length (a .workers) = leb-true _ _ (both-right _ _ (both-right _ _ (y .two))) in
+      let b : i < s .workers = ltb-true _ _ (y .four) in
       let l : workerWords w * i + workerWords w ≤ workerWords w * s .workers = place-next w b in
       omega arith
+
+  -- its number of Moves is 0
+  moves-none : TurnAsked w s i a 9 → movesAt w (a .workers) i ≡ 0
+  unfolding question6 fits load
+  moves-none y =
+      let r : Record = recordOf w a i in
+      let t = takes-number (r .head .kind) (none-left s r (last-no 9 _ (λ z. omega arith) (y .nine)) .taking) in
+      sym (length-first w (a .workers) i (movesAt w (a .workers) i)) ∙ no-moves w s r (kindNo (r .head .kind)) t (both-left _ _ (y .six))
 
   -- the workers' words after it
   words : List ℕ
   words = store w (fullRecord (recordOf w a i .head)) i (a .workers)
 
-  words-stay : (k : ℕ) → (k < workerWords w * i) ⊎ (workerWords w * i + 10 ≤ k) → getD words k 0 ≡ getD (a .workers) k 0
+  -- word j of the head is as it was loaded
+  head-word : movesAt w (a .workers) i ≡ 0 → (j : ℕ) → j < 10 → j ≢ 0 → j ≢ 7 → j ≢ 8 → getD (headList (fullRecord (recordOf w a i .head) .head) 0) j 0 ≡ getD (a .workers) (workerPlace w i + j) 0
+  unfolding headList fullRecord ended load headAt headFrom movesAt
+  head-word e j h n₀ n₇ n₈ =
+      let P : ℕ → Type 0 = λ k. getD (headList (fullRecord (recordOf w a i .head) .head) 0) k 0 ≡ getD (a .workers) (workerPlace w i + k) 0 in
+      let loaded : (k : ℕ) → k < 9 → getD (cells (a .workers) (workerPlace w i) 9) k 0 ≡ getD (a .workers) (workerPlace w i + k) 0 = getD-cells (a .workers) (workerPlace w i) 9 in
+      at-or-above P j 1 (omega arith) (loaded 1 (omega arith))
+      (λ l₁. at-or-above P j 2 (omega arith) (loaded 2 (omega arith))
+      (λ l₂. at-or-above P j 3 (omega arith) (loaded 3 (omega arith))
+      (λ l₃. at-or-above P j 4 (omega arith) (loaded 4 (omega arith))
+      (λ l₄. at-or-above P j 5 (omega arith) (loaded 5 (omega arith))
+      (λ l₅. at-or-above P j 6 (omega arith) (loaded 6 (omega arith))
+      (λ l₆. at-or-above P j 9 (omega arith) (sym e) (λ l₉. absurd (omega arith))))))))
+
+  -- and so is it in what is stored
+  in-head : TurnAsked w s i a 9 → (j : ℕ) → j < 10 → j ≢ 0 → j ≢ 7 → j ≢ 8 → getD words (workerPlace w i + j) 0 ≡ getD (a .workers) (workerPlace w i + j) 0
+  unfolding words workerPlace fullRecord
+  in-head y j h n₀ n₇ n₈ =
+      let t = there y in
+      let c = room w in
+      sym (getD-cells words (workerPlace w i) 10 j h)
+      ∙ ap (λ (v : List ℕ). getD v j 0) (store-head w (fullRecord (recordOf w a i .head)) i (a .workers) (omega arith))
+      ∙ head-word (moves-none y) j h n₀ n₇ n₈
+
+  words-stay : TurnAsked w s i a 9 → (k : ℕ) → k ≢ workerWords w * i → k ≢ workerWords w * i + 7 → k ≢ workerWords w * i + 8 → getD words k 0 ≡ getD (a .workers) k 0
   unfolding words fullRecord store storeMoves workerPlace
-  words-stay k (inl h) = head-outside w _ 0 i (a .workers) k (before h)
-  words-stay k (inr h) = head-outside w _ 0 i (a .workers) k (after h)
+  words-stay y k n₀ n₇ n₈ = by (ltb k (workerWords w * i)) refl (ltb k (workerWords w * i + 10)) refl
+    where
+      by : (b : Bool) → ltb k (workerWords w * i) ≡ b → (c : Bool) → ltb k (workerWords w * i + 10) ≡ c → getD words k 0 ≡ getD (a .workers) k 0
+      by true e c f = head-outside w _ 0 i (a .workers) k (before (ltb-true _ _ e))
+      by false e false f = head-outside w _ 0 i (a .workers) k (after (ltb-false _ _ f))
+      by false e true f =
+          let l : workerWords w * i ≤ k = ltb-false _ _ e in
+          let u : k < workerWords w * i + 10 = ltb-true _ _ f in
+          let q : workerWords w * i + (k - workerWords w * i) ≡ k = omega arith in
+          rw q at (in-head y (k - workerWords w * i) (omega arith) (λ z. n₀ (omega arith)) (λ z. n₇ (omega arith)) (λ z. n₈ (omega arith)))
 
   head-is : workerWords w * i + 10 ≤ length (a .workers) → headAt w words i ≡ fullRecord (recordOf w a i .head) .head
   unfolding words workerPlace
@@ -63,14 +124,10 @@ module _ (w : ℕ) (s : Settings) (i : ℕ) (a : Areas) where
   unfolding fullRecord ended kindNo lastOf answerOf pick
   told-of h e = rw e refl
 
-  keeps-of : (h : Head) → h ≡ fullRecord (recordOf w a i .head) .head → h ≡ ended 3 0 (recordOf w a i .head .«held_node») (recordOf w a i .head)
-  unfolding fullRecord
-  keeps-of h e = e
-
-  full-closes-at : firstNo (turnQuestions w s i a) ≡ 9 → Closes w s i a (full w s i a)
+  full-closes-at : TurnAsked w s i a 9 → Closes w s i a (full w s i a)
   unfolding full words question7 load
-  full-closes-at e =
-      let t = there e in
+  full-closes-at y =
+      let t = there y in
       let c = room w in
       let q : workerWords w * i + 10 ≤ length (a .workers) = omega arith in
       record {
@@ -78,12 +135,12 @@ module _ (w : ℕ) (s : Settings) (i : ℕ) (a : Areas) where
         nodes-stay = refl;
         levels-stay = refl;
         size-stays = length-store w _ i (a .workers);
-        words-stay = words-stay;
+        words-stay = words-stay y;
         idle = idle-of _ (head-is q);
         told = told-of _ (head-is q);
-        head-stays = keeps-of _ (head-is q);
       }
 
 pub full-closes : (w : ℕ) → FullCloses w
 full-closes w s i a e =
-    subst (λ (r : Result). Closes w s i a r) (sym (nine-is-full w s i a e)) (full-closes-at w s i a (sym (turn-number w s i a) ∙ e))
+    let y = turn-asked w s i a (λ k l h z. omega arith) (sym (turn-number w s i a) ∙ e) in
+    subst (λ (r : Result). Closes w s i a r) (sym (nine-is-full w s i a e)) (full-closes-at w s i a y)

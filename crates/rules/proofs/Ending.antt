@@ -30,7 +30,7 @@ use Rattle.rules.proofs.Invariant.{WorldOf, At, Fine}
 use Rattle.rules.proofs.Stored.{fine-after}
 
 -- Take and TakeTail by number
-takes-number : (k : Kind) → takesNode k ≡ true → Takes (kindNo k)
+pub takes-number : (k : Kind) → takesNode k ≡ true → Takes (kindNo k)
 unfolding takesNode
 takes-number k = pick-both (λ b. b ≡ true → Takes (kindNo k)) (eqb (kindNo k) 2) (λ e q. inl (eqb-true _ _ e)) (λ e q. inr (eqb-true _ _ q))
 

@@ -1,15 +1,14 @@
 -- "the excess untouched": every operation, over settings and memory of any content, leaves the words past those that question 2 asks for.
 -- Relies on the law of an operation that asks first, and on what a turn's kinds write where its questions are answered yes.
-use Prim.Native.Nat.{ℕ, zero, suc, _≤_, _<_}
+use Prim.Native.Nat.{ℕ, zero, suc, _<_}
 use mathlib.Core.Path.{_≡_, _∙_}
-use mathlib.Core.Logic.{_≢_}
 use mathlib.Core.Bool.{true, false}
 use mathlib.Core.List.{List, [], _∷_}
 use native.Mathlib.Omega.{arith}
-use borrow.Author.Tests.{ltb-true, eqb-true, not-true}
-use Rattle.words.specs.Choice.{asks, firstNo}
+use borrow.Author.Tests.{ltb-true, eqb-true}
+use Rattle.words.specs.Choice.{firstNo}
 use Rattle.words.proofs.Choice.{pick-both, both-left, both-right}
-use Rattle.settings.specs.Sizes.{levelCount, question3}
+use Rattle.settings.specs.Sizes.{levelCount}
 use Rattle.settings.specs.declared.Settings.{Settings}
 use Rattle.areas.specs.Memory.{Areas}
 use Rattle.record.specs.Layout.{Record, load, movesAt}
@@ -17,11 +16,12 @@ use Rattle.record.specs.Fits.{fits}
 use Rattle.record.proofs.Pieces.{first-sized}
 use Rattle.rules.specs.Opening.{openedAreas}
 use Rattle.rules.specs.Acts.{act}
-use Rattle.rules.specs.Asked.{question4, question6, question7, question8, question9}
+use Rattle.rules.specs.Asked.{question4, question6, question7, question9}
 use Rattle.rules.specs.Operations.{Result, unlessRefused, memoryOf, recordOf, withRecord, opening, startQuestions, startedAreas, start, turnQuestions, taken, fullRecord, full, turn, lastAnswer}
 use Rattle.rules.specs.Lists.{State, state, after, visits, endState, turnsResult, turns}
 use Rattle.rules.specs.Excess.{Untouched, ExcessStays}
 use Rattle.rules.proofs.Questions.{first-later}
+use Rattle.rules.proofs.TurnAsked.{TurnAsked, turn-asked}
 use Rattle.rules.proofs.Invariant.{SameSizes}
 use Rattle.rules.proofs.ExcessWords.{same-refl, same-then, same-fill, same-level}
 use Rattle.rules.proofs.ExcessRecords.{FitWords, same-store, fit-none, fit-few, few-moves}
@@ -82,36 +82,17 @@ module _ (w : ℕ) (s : Settings) where
           let (y₃, e₃) = first-later 3 _ _ (λ y. omega arith) e₂ in
           first-later 4 _ _ (λ y. omega arith) e₃ .0
 
-  -- what is asked before question 9
-  record Asked (i : ℕ) (a : Areas) (n : ℕ) : Type 0 where
-    pub counters : question3 w s ≡ true
-    pub below : question4 s i ≡ true
-    pub reads : question6 w s (recordOf w a i) (memoryOf a) ≡ true
-    pub busy : question7 (recordOf w a i) ≡ false
-    pub gives : firstNo (asks 9 (question9 s (recordOf w a i)) ∷ []) ≡ n
-
-  asked : (i : ℕ) (a : Areas) {n : ℕ} → ((k : ℕ) → 1 ≤ k → k ≤ 8 → k ≢ n) → firstNo (turnQuestions w s i a) ≡ n → Asked i a n
-  unfolding turnQuestions question8
-  asked i a d e =
-      let (y₁, e₁) = first-later 1 _ _ (d 1 (omega arith) (omega arith)) e in
-      let (y₂, e₂) = first-later 2 _ _ (d 2 (omega arith) (omega arith)) e₁ in
-      let (y₃, e₃) = first-later 3 _ _ (d 3 (omega arith) (omega arith)) e₂ in
-      let (y₄, e₄) = first-later 4 _ _ (d 4 (omega arith) (omega arith)) e₃ in
-      let (y₆, e₆) = first-later 6 _ _ (d 6 (omega arith) (omega arith)) e₄ in
-      let (y₈, e₈) = first-later 8 _ _ (d 8 (omega arith) (omega arith)) e₆ in
-      record { counters = y₃; below = y₄; reads = y₆; busy = not-true _ y₈; gives = e₈ }
-
   -- the Moves of a record that fits, of a worker with a call open
   loaded : (l : List ℕ) (i : ℕ) → fits w s (load w l i) ≡ true → question7 (load w l i) ≡ false → FitWords w (load w l i .moves)
   unfolding fits question7 load
   loaded l i e b = fit-few w (load w l i .moves) (first-sized w l i (movesAt w l i)) (few-moves w s _ (load w l i) b e)
 
   -- a turn whose questions are all answered yes
-  act-leaves : (i : ℕ) (a : Areas) → Asked i a 0 → Leaves w s (memoryOf a) (act w s (recordOf w a i) (memoryOf a))
+  act-leaves : (i : ℕ) (a : Areas) → TurnAsked w s i a 0 → Leaves w s (memoryOf a) (act w s (recordOf w a i) (memoryOf a))
   unfolding act question6 question9
   act-leaves i a y =
       let r : Record = recordOf w a i in
-      kind-leaves w s (y .counters) (r .head) (memoryOf a) (r .head .kind) (r .moves) (loaded (a .workers) i (both-left _ _ (y .reads)) (y .busy)) (both-right _ _ (y .reads)) (first-later 9 _ _ (λ z. omega arith) (y .gives) .0)
+      kind-leaves w s (y .three) (r .head) (memoryOf a) (r .head .kind) (r .moves) (loaded (a .workers) i (both-left _ _ (y .six)) (y .busy)) (both-right _ _ (y .six)) (first-later 9 _ _ (λ z. omega arith) (y .nine) .0)
 
   -- a turn leaves the excess and the sizes
   record Turned (a : Areas) (r : Result) : Type 0 where
@@ -127,15 +108,15 @@ module _ (w : ℕ) (s : Settings) where
     where
       is-full : firstNo (turnQuestions w s i a) ≡ 9 → Turned a (full w s i a)
       is-full e =
-          let y = asked i a (λ k l h z. omega arith) e in
-          record { areas = with-record w s i _ a (fit-none w) (y .below); sizes = sizes-same s }
+          let y = turn-asked w s i a (λ k l h z. omega arith) e in
+          record { areas = with-record w s i _ a (fit-none w) (y .four); sizes = sizes-same s }
 
       is-taken : firstNo (turnQuestions w s i a) ≡ 0 → Turned a (taken w (act w s (recordOf w a i) (memoryOf a)) i (a .workers))
       is-taken e =
-          let y = asked i a (λ k l h z. omega arith) e in
+          let y = turn-asked w s i a (λ k l h z. omega arith) e in
           let t = act-leaves i a y in
           record {
-            areas = record { nodes = t .memory .nodes; levels = t .memory .levels; workers = with-record w s i _ a (t .moves) (y .below) .workers };
+            areas = record { nodes = t .memory .nodes; levels = t .memory .levels; workers = with-record w s i _ a (t .moves) (y .four) .workers };
             sizes = t .sizes;
           }
 

@@ -2,6 +2,7 @@
 -- Relies on the definitions in specs, on the laws of words, areas and record, and on the theory in trie.
 pub mod Questions
 pub mod OneTurn
+pub mod TurnAsked
 pub mod Carried
 pub mod Visits
 pub mod ManyTurns

@@ -4,7 +4,7 @@ use Prim.Native.Nat.{ℕ, zero, suc, _+_, _≤_, _<_}
 use mathlib.Core.Path.{_≡_, refl, sym, ap, subst, _∙_}
 use mathlib.Core.Logic.{_≢_, _⊎_, inl, inr}
 use mathlib.Core.Bool.{true, false, not}
-use mathlib.Core.List.{List, [], _∷_, _++_}
+use mathlib.Core.List.{List, [], _∷_, _++_, append-assoc}
 use native.Mathlib.Omega.{arith}
 use lib.Dec.{ltb}
 use Rattle.words.specs.Choice.{pick, both, every}
@@ -74,6 +74,17 @@ entry-at w (i ∷ l) (suc n) x y (u ∷ before) v more e =
     let q : visits w l (leftAfter (turnAt w (visit i x) .reply .number) n) (after (turnAt w (visit i x))) ≡ before ++ v ∷ more = cc in
     let (f, o) = entry-at w l _ _ (step y) before v more q in
     (f ∙ ap (λ (t : Visit). endState w (after (turnAt w t)) before) p, o)
+
+-- the state after entries is what the last of them left
+end-last : (w : ℕ) (x : State) (before : List Visit) (v : Visit) → endState w x (before ++ v ∷ []) ≡ after (turnAt w v)
+unfolding endState
+end-last w x [] v = refl
+end-last w x (u ∷ before) v = end-last w (after (turnAt w u)) before v
+
+-- so an entry finds what the one before it left
+finds-next : (w : ℕ) (l : List ℕ) (n : ℕ) (x : State) {workers : ℕ} → Yes w workers l x → (before : List Visit) (v u : Visit) (more : List Visit) → visits w l n x ≡ before ++ v ∷ u ∷ more → u .before ≡ after (turnAt w v)
+finds-next w l n x y before v u more e =
+    entry-at w l n x y (before ++ v ∷ []) u more (e ∙ sym (append-assoc before (v ∷ []) (u ∷ more))) .0 ∙ end-last w x before v
 
 -- and fewer turns are done before it than the limit
 below-at : (w : ℕ) (l : List ℕ) (n : ℕ) (x : State) {workers : ℕ} → Yes w workers l x → AtEach w l n x (λ before v. turnsDone w before < n)
@@ -163,7 +174,7 @@ all-four w s l a y =
     record { three = record { workers-is = refl; one = both-left _ _ y; two = both-left _ _ y₂; three = both-left _ _ y₃ }; four = both-left _ _ (both-right _ _ y₃) }
 
 pub lists-end : (w : ℕ) → ListsEnd w
-unfolding turnsResult
+unfolding turnsResult endState
 lists-end w s l limit a y =
     let four = all-four w s l a y in
     let m = comes w l limit (state s a) four in
@@ -171,11 +182,13 @@ lists-end w s l limit a y =
     record {
       rest = m .rest;
       beginning = m .beginning;
-      finds = λ before v more e. entry-at w l limit (state s a) four before v more e .0;
+      first = λ v more e. entry-at w l limit (state s a) four [] v more e .0;
+      next = λ before v u more e. finds-next w l limit (state s a) four before v u more e;
       within = rw c (m .within);
       ends = rw c (m .ends);
       counted = ap (λ r. r .reply .turns) c;
-      left = ap after c;
+      left = λ before v e. ap after c ∙ ap (endState w (state s a)) e ∙ end-last w (state s a) before v;
+      none-left = λ e. ap after c ∙ ap (endState w (state s a)) e;
       below = below-at w l limit (state s a) four;
       numbers = λ before v more e. entry-at w l limit (state s a) four before v more e .1;
       skipped = λ before v more e z. (eight-leaves w (v .before .settings) (v .worker) (v .before .areas) z, eight-uncounted w (v .before) (v .worker) z);

@@ -45,6 +45,7 @@ handed w s a n h e =
     let f = refuses-opening w s a .numbered .refusal n h .0 e in
     let six = below-six _ _ f in
     record {
+      of-opening = e;
       of-start = λ i row column. refuses-start w s i row column a .numbered .refusal n h .1 (first-two _ _ _ f);
       of-turn = λ i. refuses-turn w s i a .numbered .refusal n h .1 (first-two _ _ _ f);
       of-turns = λ l limit. refuses-list w s l limit a .refusal n h six .1 (first-two _ _ _ f);

@@ -55,7 +55,7 @@ level-length w levels g p d = same-level w {n = g + 1} levels g p d (omega arith
 -- one access leaves the sizes: what holds of the settings, whatever is taken, holds after it
 settings-by : {w : ℕ} {s s′ : Settings} {m m′ : Memory} (P : Settings → Type 0) → P s → P (tookNode s) → P (tookLevel s) → Access w s m s′ m′ → P s′
 settings-by P p n g (access.none e f) = subst P (sym e) p
-settings-by P p n g (access.cell x v e f) = subst P (sym e) p
+settings-by P p n g (access.cell x v i e f) = subst P (sym e) p
 settings-by P p n g (access.next-node pixel next e f) = subst P (sym e) n
 settings-by P p n g (access.spare-node i pixel next e f) = subst P (sym e) p
 settings-by P p n g (access.next-level previous depth e f) = subst P (sym e) g
@@ -67,7 +67,7 @@ SameLengths m m′ = (length (m′ .nodes) ≡ length (m .nodes)) × (length (m�
 
 lengths-by : {w : ℕ} {s s′ : Settings} {m m′ : Memory} → Access w s m s′ m′ → SameLengths m m′
 lengths-by {w} {s} {s′} {m} (access.none e f) = subst (SameLengths m) (sym f) (refl, refl)
-lengths-by {w} {s} {s′} {m} (access.cell x v e f) = subst (SameLengths m) (sym f) (set-length-nodes w m x v, set-length-levels w m x v)
+lengths-by {w} {s} {s′} {m} (access.cell x v i e f) = subst (SameLengths m) (sym f) (set-length-nodes w m x v, set-length-levels w m x v)
 lengths-by {w} {s} {s′} {m} (access.next-node p n e f) = subst (SameLengths m) (sym f) (node-length (m .nodes) _ p n, refl)
 lengths-by {w} {s} {s′} {m} (access.spare-node i p n e f) = subst (SameLengths m) (sym f) (node-length (m .nodes) i p n, refl)
 lengths-by {w} {s} {s′} {m} (access.next-level p d e f) = subst (SameLengths m) (sym f) (refl, level-length w (m .levels) _ p d)

@@ -1,33 +1,31 @@
 -- "Number 9 alone makes the worker idle with answer "full".", and changes nothing else, over settings and memory of any content.
 -- Relies on the operations' definitions, on settings for the sizes.
-use Prim.Native.Nat.{ℕ, _+_, _*_, _≤_, _<_}
+use Prim.Native.Nat.{ℕ, _+_, _*_}
 use mathlib.Core.Path.{_≡_}
-use mathlib.Core.Logic.{_⊎_}
+use mathlib.Core.Logic.{_≢_}
 use mathlib.Core.Bool.{true}
 use lib.ListN.{getD, length}
 use Rattle.settings.specs.Sizes.{workerWords}
 use Rattle.settings.specs.declared.Settings.{Settings}
 use Rattle.areas.specs.Memory.{Areas}
 use Rattle.record.specs.declared.Answer.the-variants.{Full}
-use Rattle.rules.specs.Heads.{ended}
 use Rattle.rules.specs.Asked.{question7}
 use Rattle.rules.specs.Operations.{Result, recordOf, turn, lastOf}
 
--- "Number 9 alone makes the worker idle with answer "full"."
+-- what the turn leaves where the areas were a
 pub record Closes (w : ℕ) (s : Settings) (i : ℕ) (a : Areas) (r : Result) : Type 0 where
   pub settings-stay : r .reply .settings ≡ s
   pub nodes-stay : r .areas .nodes ≡ a .nodes
   pub levels-stay : r .areas .levels ≡ a .levels
-  -- every word of the workers but the ten of this worker's head
   pub size-stays : length (r .areas .workers) ≡ length (a .workers)
-  pub words-stay : (k : ℕ) → (k < workerWords w * i) ⊎ (workerWords w * i + 10 ≤ k) → getD (r .areas .workers) k 0 ≡ getD (a .workers) k 0
+  -- every word of the workers but three of this worker's: its kind, its answer and the answer's node
+  -- excludes: a "full" that loses the worker's spare level; one that writes another worker's record
+  pub words-stay : (k : ℕ) → k ≢ workerWords w * i → k ≢ workerWords w * i + 7 → k ≢ workerWords w * i + 8 → getD (r .areas .workers) k 0 ≡ getD (a .workers) k 0
   -- the worker is idle, and its last answer is "full"
+  -- excludes: a "full" that leaves the call open
   pub idle : question7 (recordOf w (r .areas) i) ≡ true
   pub told : lastOf (recordOf w (r .areas) i .head) ≡ Full
-  -- of the head nothing else changes: the worker keeps what it holds
-  pub head-stays : recordOf w (r .areas) i .head ≡ ended 3 0 (recordOf w a i .head .«held_node») (recordOf w a i .head)
 
 -- every turn that is given 9
--- excludes: a "full" that loses the worker's spare level; one that leaves the call open
 abbrev pub FullCloses : ℕ → Type 0
 FullCloses w = (s : Settings) (i : ℕ) (a : Areas) → turn w s i a .reply .number ≡ 9 → Closes w s i a (turn w s i a)

@@ -1,4 +1,4 @@
--- The definitions of document 01, in its order, and what its demands 1 and 3 say of them.
+-- The definitions of document 01, in its order, and what is said of them: its demands 1 and 3, its sentences besides, and of a call alone.
 -- Relies on words, settings, areas and record.
 pub mod Opening
 pub mod Heads

@@ -7,7 +7,7 @@ use mathlib.Core.Bool.{true, false}
 use mathlib.Core.List.{List, [], _∷_, _++_}
 use Rattle.settings.specs.declared.Settings.{Settings}
 use Rattle.areas.specs.Memory.{Areas}
-use Rattle.rules.specs.Lists.{State, state, after, Visit, turnAt, visits, endState, counts, turnsDone, listQuestions, turns}
+use Rattle.rules.specs.Lists.{State, state, after, Visit, turnAt, visits, counts, turnsDone, listQuestions, turns}
 use Rattle.rules.specs.Refusals.{AllYes}
 
 -- the workers at the entries reached
@@ -26,15 +26,17 @@ pub record ListEnds (w : ℕ) (s : Settings) (l : List ℕ) (limit : ℕ) (a : A
   -- "the entries reached" are the list's first ones
   -- excludes: a list that leaves an entry out, or takes its entries in another order
   pub beginning : l ≡ workersAt (visits w l limit (state s a)) ++ rest
-  -- each entry finds what those before it left
+  -- the first entry finds what the list was handed, each later one what the one before it left
   -- excludes: a list whose turns all begin at the state that it was handed
-  pub finds : AtEach w l limit (state s a) (λ before v. v .before ≡ endState w (state s a) before)
+  pub first : (v : Visit) (more : List Visit) → visits w l limit (state s a) ≡ v ∷ more → v .before ≡ state s a
+  pub next : (before : List Visit) (v u : Visit) (more : List Visit) → visits w l limit (state s a) ≡ before ++ v ∷ u ∷ more → u .before ≡ after (turnAt w v)
   -- "the entries reached whose worker had a call open, "full" included, the one that met 6 not"
   -- excludes: a list that invents its turns done
   pub counted : turns w s l limit a .reply .turns ≡ turnsDone w (visits w l limit (state s a))
-  -- "the turns before that stay, in the settings also"
+  -- "the turns before that stay, in the settings also": the list leaves what its last entry reached left, and changes nothing where none is reached
   -- excludes: a list that loses the changes of its last entry
-  pub left : after (turns w s l limit a) ≡ endState w (state s a) (visits w l limit (state s a))
+  pub left : (before : List Visit) (v : Visit) → visits w l limit (state s a) ≡ before ++ v ∷ [] → after (turns w s l limit a) ≡ after (turnAt w v)
+  pub none-left : visits w l limit (state s a) ≡ [] → after (turns w s l limit a) ≡ state s a
   -- no more turns are done than the limit: "Limit 0 does none."
   -- excludes: idle entries counted as turns done
   pub within : turns w s l limit a .reply .turns ≤ limit

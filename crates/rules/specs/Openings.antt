@@ -23,6 +23,7 @@ OpeningKeeps w = (s : Settings) (a : Areas) → Keeps w s a (opening w s a .area
 
 -- "the newest settings handed in each time": whoever goes on with the settings that a refused opening gave back is refused by the same number, never by 6
 pub record RefusedAlike (w : ℕ) (s : Settings) (a : Areas) (n : ℕ) : Type 0 where
+  pub of-opening : opening w s a .reply .number ≡ n
   pub of-start : (i row column : ℕ) → start w s i row column a .reply .number ≡ n
   pub of-turn : (i : ℕ) → turn w s i a .reply .number ≡ n
   pub of-turns : (l : List ℕ) (limit : ℕ) → turns w s l limit a .reply .number ≡ n

@@ -11,7 +11,7 @@ use Rattle.rules.specs.Reached.{Reached}
 use Rattle.rules.specs.Calls.{Event, stateAfter}
 
 -- what stays of level g from the memory m to m′
--- excludes: a machine that fills a level anew which others can reach; one that gives a level back after its chain has moved
+-- excludes: a machine that fills a level which others can reach anew, with another previous level or depth; one that gives a level back after its chain has moved
 pub record Stays (w : ℕ) (m m′ : Memory) (g : ℕ) : Type 0 where
   pub previous-stays : previousAt w (m′ .levels) g ≡ previousAt w (m .levels) g
   pub depth-stays : depthAt w (m′ .levels) g ≡ depthAt w (m .levels) g

@@ -2,16 +2,14 @@
 -- Relies on the definitions of the turns and of question 6.
 use Prim.Native.Nat.{ℕ, _≤_, _<_}
 use mathlib.Core.Path.{_≡_, sym, _∙_}
-use mathlib.Core.Logic.{_≢_}
 use mathlib.Core.Bool.{Bool, true, false}
 use mathlib.Core.List.{List, []}
 use native.Mathlib.Omega.{arith}
 use lib.Dec.{eqb, leb}
-use borrow.Author.Tests.{ltb-true, leb-true, not-true}
-use Rattle.words.specs.Choice.{both, firstNo}
+use borrow.Author.Tests.{ltb-true, leb-true}
+use Rattle.words.specs.Choice.{both}
 use Rattle.words.specs.Digits.{maxPixel}
 use Rattle.words.proofs.Choice.{true-false, pick-both, pick-true, both-left, both-right}
-use Rattle.settings.specs.Sizes.{question1, question3}
 use Rattle.settings.specs.declared.Settings.{Settings}
 use Rattle.areas.specs.Memory.{Areas, Memory, isNode, nodeTaken}
 use Rattle.areas.specs.declared.Cell.{Cell}
@@ -28,9 +26,9 @@ use Rattle.rules.specs.Steps.{Step, expected, withNode, takeNode, withLevel, ta
 use Rattle.rules.specs.Searching as searching
 use Rattle.rules.specs.Moving as moving
 use Rattle.rules.specs.Acts.{actBy, act}
-use Rattle.rules.specs.Asked.{question4, inHand, pixelFits, comparesRef, puts, reads, appends, follows, readsBy, question6, question7, question8}
-use Rattle.rules.specs.Operations.{recordOf, memoryOf, turnQuestions}
-use Rattle.rules.proofs.Questions.{first-later}
+use Rattle.rules.specs.Asked.{inHand, pixelFits, comparesRef, puts, reads, appends, follows, readsBy, question6, question7}
+use Rattle.rules.specs.Operations.{recordOf, memoryOf}
+use Rattle.rules.proofs.TurnAsked.{TurnAsked}
 
 -- the node of an answer is below n
 unfoldable pub NodeBelow : ℕ → Answer → Type 0
@@ -121,28 +119,12 @@ pixel-fits w s r k i =
     call : (b : Bool) → both (callFits s k (r .head)) b ≡ true → r .head .pixel ≤ maxPixel
     call b y = leb-true _ _ (both-left _ _ (both-left _ _ y))
 
--- what a turn was asked before question 9
-pub record Asked (w : ℕ) (s : Settings) (i : ℕ) (a : Areas) : Type 0 where
-  pub one : question1 s ≡ true
-  pub three : question3 w s ≡ true
-  pub below : question4 s i ≡ true
-  pub pixel : recordOf w a i .head .pixel ≤ maxPixel
-  pub reads : readsBy (recordOf w a i .head .kind) w s (recordOf w a i .head) (recordOf w a i .moves) (memoryOf a) ≡ true
-
--- where no question before 9 was answered no
-pub asked : (w : ℕ) (s : Settings) (i : ℕ) (a : Areas) {n : ℕ} → ((k : ℕ) → 1 ≤ k → k ≤ 8 → k ≢ n) → firstNo (turnQuestions w s i a) ≡ n → Asked w s i a
-unfolding turnQuestions question6 question7 question8 fits
-asked w s i a d e =
-    let (y₁, e₁) = first-later 1 _ _ (d 1 (omega arith) (omega arith)) e in
-    let (y₂, e₂) = first-later 2 _ _ (d 2 (omega arith) (omega arith)) e₁ in
-    let (y₃, e₃) = first-later 3 _ _ (d 3 (omega arith) (omega arith)) e₂ in
-    let (y₄, e₄) = first-later 4 _ _ (d 4 (omega arith) (omega arith)) e₃ in
-    let (y₆, e₆) = first-later 6 _ _ (d 6 (omega arith) (omega arith)) e₄ in
-    let (y₈, e₈) = first-later 8 _ _ (d 8 (omega arith) (omega arith)) e₆ in
-    let r : Record = recordOf w a i in
-    record { one = y₁; three = y₃; below = y₄; pixel = pixel-fits w s r (kindNo (r .head .kind)) (not-true _ y₈) (both-left _ _ y₆); reads = both-right _ _ y₆ }
+-- the pixel of the call of a turn that was asked question 9
+pub asked-pixel : {w : ℕ} {s : Settings} {i : ℕ} {a : Areas} {n : ℕ} → TurnAsked w s i a n → recordOf w a i .head .pixel ≤ maxPixel
+unfolding question6 question7 fits
+asked-pixel {w} {s} {i} {a} y = pixel-fits w s (recordOf w a i) (kindNo (recordOf w a i .head .kind)) (y .busy) (both-left _ _ (y .six))
 
 -- the answer of a turn that is carried out
-pub act-below : (w : ℕ) (s : Settings) (i : ℕ) (a : Areas) → Asked w s i a → NodeBelow (s .«nodes_taken») (act w s (recordOf w a i) (memoryOf a) .answer)
-unfolding act
-act-below w s i a y = kind-below w s (recordOf w a i .head) (memoryOf a) (recordOf w a i .head .kind) (recordOf w a i .moves) (y .reads)
+pub act-below : {w : ℕ} {s : Settings} {i : ℕ} {a : Areas} {n : ℕ} → TurnAsked w s i a n → NodeBelow (s .«nodes_taken») (act w s (recordOf w a i) (memoryOf a) .answer)
+unfolding act question6
+act-below {w} {s} {i} {a} y = kind-below w s (recordOf w a i .head) (memoryOf a) (recordOf w a i .head .kind) (recordOf w a i .moves) (both-right _ _ (y .six))

@@ -25,6 +25,7 @@ use Rattle.rules.specs.Asked.{question4}
 use Rattle.rules.specs.Operations.{Result, unlessRefused, recordOf, memoryOf, opening, openingQuestions, start, turn, turnQuestions, taken, full}
 use Rattle.rules.specs.Lists.{State, state, after}
 use Rattle.rules.proofs.OneTurn.{turn-number, done-number, nine-is-full, turn-refused, refuses-turn}
+use Rattle.rules.proofs.TurnAsked.{TurnAsked, turn-asked}
 use Rattle.rules.proofs.Refused.{refuses-opening}
 use Rattle.rules.proofs.Carried.{opening-done}
 use Rattle.rules.proofs.Three.{Three, three-stays}
@@ -35,7 +36,7 @@ use Rattle.text.specs.declared.Command.the-variants.{Sizes, Starts, Turns, Unre
 use Rattle.run.specs.Program.{width, mostNodes, startLine, turnPrints, turnLine, carried, firstLine, restPrints, linesPrint, openedPrints, inputPrints, prints}
 use Rattle.run.specs.Numbers.{Five, FiveCall, Small, AllSmall, NumbersSmall}
 use Rattle.run.proofs.Given.{opening-gives, start-gives, turn-gives}
-use Rattle.run.proofs.Answers.{NodeBelow, Asked, asked, act-below}
+use Rattle.run.proofs.Answers.{NodeBelow, asked-pixel, act-below}
 
 -- what holds of the settings from line to line: questions 1 and 3
 record Sound (s : Settings) : Type 0 where
@@ -88,12 +89,12 @@ sized s y =
     record { ranges = r; nodes = n; levels = omega arith }
 
 -- the fields of a call that ended
-call-five : (s : Settings) (i : ℕ) (a : Areas) → Asked width s i a → FiveCall i (recordOf width a i .head .pixel)
+call-five : (s : Settings) (i : ℕ) (a : Areas) {n : ℕ} → TurnAsked width s i a n → FiveCall i (recordOf width a i .head .pixel)
 unfolding question4
 call-five s i a y =
-    let l : i < s .workers = ltb-true _ _ (y .below) in
+    let l : i < s .workers = ltb-true _ _ (y .four) in
     let c : Sized s = sized s (record { one = y .one; three = y .three }) in
-    let p : recordOf width a i .head .pixel ≤ 16777215 = y .pixel in
+    let p : recordOf width a i .head .pixel ≤ 16777215 = asked-pixel y in
     (omega arith, omega arith, omega arith)
 
 -- what a turn prints
@@ -111,12 +112,12 @@ turn-five n s i a l = by (ℕ-discrete (turn width s i a .reply .number) 0) (ℕ
   where
     by : Dec (turn width s i a .reply .number ≡ 0) → Dec (turn width s i a .reply .number ≡ 9) → Small (turnPrints n i (recordOf width a i .head .pixel) (turn width s i a .reply .number) (turn width s i a .reply .answer))
     by (yes z) d =
-        let y : Asked width s i a = asked width s i a (λ k l h e. omega arith) (sym (turn-number width s i a) ∙ z) in
+        let y = turn-asked width s i a (λ k l h e. omega arith) (sym (turn-number width s i a) ∙ z) in
         let c : Sized s = sized s (record { one = y .one; three = y .three }) in
         rw (done-number width s i a z, taken)
-        (answer-five n i (recordOf width a i .head .pixel) 0 (s .«nodes_taken») (act width s (recordOf width a i) (memoryOf a) .answer) l (omega arith) (call-five s i a y) (omega arith) (act-below width s i a y))
+        (answer-five n i (recordOf width a i .head .pixel) 0 (s .«nodes_taken») (act width s (recordOf width a i) (memoryOf a) .answer) l (omega arith) (call-five s i a y) (omega arith) (act-below y))
     by (no z) (yes e) =
-        let y : Asked width s i a = asked width s i a (λ k l h d. omega arith) (sym (turn-number width s i a) ∙ e) in
+        let y = turn-asked width s i a (λ k l h d. omega arith) (sym (turn-number width s i a) ∙ e) in
         rw (nine-is-full width s i a e, full) (call-five s i a y)
     by (no z) (no e) =
         let b : turn width s i a .reply .number ≤ 9 = turn-gives width s i a in

@@ -21,7 +21,7 @@ pub begins : (input : List ℕ) (a : Areas) → remaining begun input a ≡ prin
 unfolding remainingAt
 begins input a = refl
 
--- and a run can stand there
+-- and the input allows it
 begin-stands : (input : List ℕ) → canStand begun input ≡ true
 unfolding canStandAt
 begin-stands input = refl

@@ -245,7 +245,7 @@ module _ (p : Progress) (input : List ℕ) (a : Areas) where
       → r ≡ pick (eqb m 0) (told (End (p .settings .«nodes_taken») (p .settings .«levels_taken»)) (progress Done (p .line) (p .at) (p .settings))) y
   rest-end y f g h = picks-yes _ y (f ∙ (simp g)) (eq-eqb _ _ h)
 
-  -- where a run can stand, at the stage that it is at
+  -- a progress that the input allows, at the stage that it is at
   pub stands-first : canStand p input ≡ true → p .stage ≡ First → length input ≤ 65536
   unfolding canStandAt
   stands-first h e = leb-true _ _ (subst (λ (g : Stage). canStandAt g p input ≡ true) e h)
@@ -267,7 +267,7 @@ module _ (p : Progress) (input : List ℕ) (a : Areas) where
   stand-other Last k = absurd (miss (0 ∷ 5 ∷ []) 4 tt k)
   stand-other Done k = refl
 
-  -- one thing is printed where the run goes on and can stand
+  -- one thing is printed where the run goes on and the input allows its progress
   pub next-goes : {g : Stage} {r : Told} {b : Areas} → Prints p input a r b → p .stage ≡ g → goesOn g ≡ true → canStand p input ≡ true → Next p input a r b
   next-goes x e h s =
       record {

@@ -71,7 +71,8 @@ goesOn Done = false
 unfoldable pub counted : Progress → ℕ → Bool
 counted p n = both (leb n 65536) (both (leb (p .at) n) (leb (p .line) (p .at + 1)))
 
--- where a run can stand, from its beginning on: an input that is too long has no lines to read, one that is not is not refused for it
+-- what is asked of a progress, by its stage: an input that is too long has no lines to read, one that is not is not refused for it. Every place of a run passes; so
+-- do some that no run has, since neither the settings are asked nor whether a line begins there.
 unfoldable pub canStandAt : Stage → Progress → List ℕ → Bool
 canStandAt Begin p input = true
 canStandAt TooLong p input = ltb 65536 (length input)
@@ -80,7 +81,7 @@ canStandAt Lines p input = counted p (length input)
 canStandAt Last p input = counted p (length input)
 canStandAt Done p input = true
 
--- whether a run over this input can stand there
+-- what is asked of a progress over this input
 abbrev pub canStand : Progress → List ℕ → Bool
 canStand p input = canStandAt (p .stage) p input
 
@@ -94,7 +95,7 @@ pub record Prints (p : Progress) (input : List ℕ) (a : Areas) (r : Told) (b : 
 abbrev pub Ends : Progress → Areas → Told → Areas → Type 0
 Ends p a r b = (r ≡ told Nothing (progress Done (p .line) (p .at) (p .settings))) × (b ≡ a)
 
--- what is told next, of every progress: one thing where the run goes on and can stand, else nothing more
+-- what is told next, of every progress: one thing where the run goes on and the progress passes, else nothing more
 pub record Next (p : Progress) (input : List ℕ) (a : Areas) (r : Told) (b : Areas) : Type 0 where
   pub prints : goesOn (p .stage) ≡ true → canStand p input ≡ true → Prints p input a r b
   pub at-end : goesOn (p .stage) ≡ false → Ends p a r b

@@ -351,7 +351,7 @@ fn counted(p: Progress, n: usize) -> bool
     false
 }
 
-// Whether a run can stand there.
+// Whether the input allows this progress: every place of a run over it does.
 fn can_stand(p: Progress, input: &[u8]) -> bool
     ensures { λ r. ⌜ r ≡ canStand p (now (input .entry)) ⌝ }
 {
@@ -365,7 +365,7 @@ fn can_stand(p: Progress, input: &[u8]) -> bool
     }
 }
 
-// What is printed next where a run can stand, stage by stage.
+// What is printed next where the input allows the progress, stage by stage.
 fn advance(
     p: Progress,
     input: &[u8],
