@@ -1,10 +1,13 @@
 -- A turn makes one shared access, by kind.
 -- Relies on the definitions of the kinds.
-use Prim.Native.Nat.{ℕ}
-use mathlib.Core.Path.{refl}
+use Prim.Native.Nat.{ℕ, suc, _-_}
+use mathlib.Core.Path.{_≡_, refl}
+use mathlib.Core.Bool.{false}
 use mathlib.Core.List.{List, []}
 use native.Mathlib.Nat.{mod-lt}
+use native.Mathlib.Omega.{arith}
 use lib.Dec.{eqb}
+use borrow.Author.Tests.{eqb-false}
 use Rattle.words.specs.Digits.{digit}
 use Rattle.words.proofs.Choice.{pick-both}
 use Rattle.settings.specs.declared.Settings.{Settings}
@@ -25,11 +28,15 @@ use Rattle.rules.specs.Access.{Inside, Access, OneAccess}
 use Rattle.rules.specs.Access as access
 use Rattle.rules.proofs.Dims.{base-pos}
 
+-- the number of what is held, where something is
+held : {n : ℕ} → eqb n 0 ≡ false → n ≡ suc (n - 1)
+held {n} e = let d = eqb-false n 0 e in omega arith
+
 module _ (w : ℕ) (s : Settings) (h : Head) (m : Memory) where
   abbrev By : Step → Type 0
-  By t = Access w s m (t .settings) (t .memory)
+  By t = Access w s h m (t .settings) (t .memory)
 
-  still : Access w s m s m
+  still : Access w s h m s m
   still = access.none refl refl
 
   -- a pixel's digit is the number of an entry
@@ -47,11 +54,11 @@ module _ (w : ℕ) (s : Settings) (h : Head) (m : Memory) where
 
   take-by : (k : Kind) → By (takeNode k s h m)
   unfolding takeNode withNode
-  take-by k = pick-both By (eqb (h .«held_node») 0) (λ e. access.next-node _ _ refl refl) (λ e. access.spare-node _ _ _ refl refl)
+  take-by k = pick-both By (eqb (h .«held_node») 0) (λ e. access.next-node _ _ refl refl) (λ e. access.spare-node _ _ _ (held e) refl refl)
 
   level-by : (k : Kind) (ms : List Move) → By (takeLevel w k s h ms m)
   unfolding takeLevel withLevel
-  level-by k ms = pick-both By (eqb (h .«held_level») 0) (λ e. access.next-level _ _ refl refl) (λ e. access.spare-level _ _ _ refl refl)
+  level-by k ms = pick-both By (eqb (h .«held_level») 0) (λ e. access.next-level _ _ refl refl) (λ e. access.spare-level _ _ _ (held e) refl refl)
 
   closed-by : (k : Kind) (ms : List Move) → By (closed w k s h ms m)
   unfolding closed
@@ -95,7 +102,7 @@ module _ (w : ℕ) (s : Settings) (h : Head) (m : Memory) where
 pub one-access : (w : ℕ) → OneAccess w
 unfolding turn unlessRefused full taken act
 one-access w s i a =
-    let P : Result → Type 0 = λ r. Access w s (memoryOf a) (r .reply .settings) (memoryOf (r .areas)) in
+    let P : Result → Type 0 = λ r. Access w s (recordOf w a i .head) (memoryOf a) (r .reply .settings) (memoryOf (r .areas)) in
     let h : Record = recordOf w a i in
     pick-both P _
     (λ e. access.none refl refl)

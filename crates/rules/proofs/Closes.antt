@@ -1,5 +1,5 @@
 -- "full" closes its call and changes nothing else.
--- Relies on demand 1 of one turn and on the laws of load and store.
+-- Relies on what a turn was asked, on the kinds that take a node, and on the laws of load and store.
 use Prim.Native.Nat.{ℕ, _+_, _-_, _*_, _≤_, _<_}
 use mathlib.Core.Path.{_≡_, refl, sym, ap, subst, _∙_}
 use mathlib.Core.Logic.{_≢_}
@@ -10,7 +10,7 @@ use lib.Dec.{eqb, leb, ltb}
 use lib.ListN.{length, getD}
 use borrow.Author.Tests.{leb-true, leb-false, ltb-true, ltb-false, eqb-true}
 use Rattle.words.specs.Blocks.{cells}
-use Rattle.words.specs.Choice.{pick, firstNo}
+use Rattle.words.specs.Choice.{pick}
 use Rattle.words.proofs.Blocks.{getD-cells}
 use Rattle.words.proofs.Choice.{pick-both, both-left, both-right}
 use Rattle.settings.specs.Sizes.{workerWords, question2}
@@ -26,7 +26,7 @@ use Rattle.record.proofs.Pieces.{length-first, head-outside}
 use Rattle.record.proofs.Records.{length-store, store-head, head-stored}
 use Rattle.rules.specs.Heads.{ended}
 use Rattle.rules.specs.Asked.{question4, question6, question7}
-use Rattle.rules.specs.Operations.{Result, recordOf, turnQuestions, full, fullRecord, lastOf}
+use Rattle.rules.specs.Operations.{Result, recordOf, full, fullRecord, lastOf}
 use Rattle.rules.specs.Closes.{Closes, FullCloses}
 use Rattle.rules.proofs.Questions.{last-no}
 use Rattle.rules.proofs.OneTurn.{turn-number, nine-is-full}

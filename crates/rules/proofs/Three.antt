@@ -53,25 +53,25 @@ level-length : (w : ℕ) (levels : List ℕ) (g p d : ℕ) → length (fillLevel
 level-length w levels g p d = same-level w {n = g + 1} levels g p d (omega arith) .size
 
 -- one access leaves the sizes: what holds of the settings, whatever is taken, holds after it
-settings-by : {w : ℕ} {s s′ : Settings} {m m′ : Memory} (P : Settings → Type 0) → P s → P (tookNode s) → P (tookLevel s) → Access w s m s′ m′ → P s′
+settings-by : {w : ℕ} {s s′ : Settings} {h : Head} {m m′ : Memory} (P : Settings → Type 0) → P s → P (tookNode s) → P (tookLevel s) → Access w s h m s′ m′ → P s′
 settings-by P p n g (access.none e f) = subst P (sym e) p
 settings-by P p n g (access.cell x v i e f) = subst P (sym e) p
 settings-by P p n g (access.next-node pixel next e f) = subst P (sym e) n
-settings-by P p n g (access.spare-node i pixel next e f) = subst P (sym e) p
+settings-by P p n g (access.spare-node i pixel next o e f) = subst P (sym e) p
 settings-by P p n g (access.next-level previous depth e f) = subst P (sym e) g
-settings-by P p n g (access.spare-level i previous depth e f) = subst P (sym e) p
+settings-by P p n g (access.spare-level i previous depth o e f) = subst P (sym e) p
 
 -- and the areas' lengths
 abbrev SameLengths : Memory → Memory → Type 0
 SameLengths m m′ = (length (m′ .nodes) ≡ length (m .nodes)) × (length (m′ .levels) ≡ length (m .levels))
 
-lengths-by : {w : ℕ} {s s′ : Settings} {m m′ : Memory} → Access w s m s′ m′ → SameLengths m m′
-lengths-by {w} {s} {s′} {m} (access.none e f) = subst (SameLengths m) (sym f) (refl, refl)
-lengths-by {w} {s} {s′} {m} (access.cell x v i e f) = subst (SameLengths m) (sym f) (set-length-nodes w m x v, set-length-levels w m x v)
-lengths-by {w} {s} {s′} {m} (access.next-node p n e f) = subst (SameLengths m) (sym f) (node-length (m .nodes) _ p n, refl)
-lengths-by {w} {s} {s′} {m} (access.spare-node i p n e f) = subst (SameLengths m) (sym f) (node-length (m .nodes) i p n, refl)
-lengths-by {w} {s} {s′} {m} (access.next-level p d e f) = subst (SameLengths m) (sym f) (refl, level-length w (m .levels) _ p d)
-lengths-by {w} {s} {s′} {m} (access.spare-level g p d e f) = subst (SameLengths m) (sym f) (refl, level-length w (m .levels) g p d)
+lengths-by : {w : ℕ} {s s′ : Settings} {h : Head} {m m′ : Memory} → Access w s h m s′ m′ → SameLengths m m′
+lengths-by {w} {s} {s′} {h} {m} (access.none e f) = subst (SameLengths m) (sym f) (refl, refl)
+lengths-by {w} {s} {s′} {h} {m} (access.cell x v i e f) = subst (SameLengths m) (sym f) (set-length-nodes w m x v, set-length-levels w m x v)
+lengths-by {w} {s} {s′} {h} {m} (access.next-node p n e f) = subst (SameLengths m) (sym f) (node-length (m .nodes) _ p n, refl)
+lengths-by {w} {s} {s′} {h} {m} (access.spare-node i p n o e f) = subst (SameLengths m) (sym f) (node-length (m .nodes) i p n, refl)
+lengths-by {w} {s} {s′} {h} {m} (access.next-level p d e f) = subst (SameLengths m) (sym f) (refl, level-length w (m .levels) _ p d)
+lengths-by {w} {s} {s′} {h} {m} (access.spare-level g p d o e f) = subst (SameLengths m) (sym f) (refl, level-length w (m .levels) g p d)
 
 -- the counters stay in range, by kind
 module _ (w : ℕ) (s : Settings) (h : Head) (m : Memory) (q : question3 w s ≡ true) where
