@@ -1,66 +1,38 @@
 #!/usr/bin/env python3
-"""docs/LAYOUT.md against the library: words are read where the document says they stand, in calls whose turns document 01 tells; its other numbers are measured.
-Relies on target/staticlib/libexport.a, which gcc makes a shared object of. Then each number of the document is changed in turn, which must be noticed."""
+"""docs/LAYOUT.md against the library: words are read where the page says they stand, in calls whose turns document 01 tells; its other numbers are measured
+where the library can be asked for them, else typed in. Then numbers are changed, names and contents exchanged: each must be noticed. Relies on tests/library.py."""
 import ctypes
-import os
 import re
-import subprocess
 import sys
 
-ROOT = os.path.dirname(os.path.dirname(os.path.abspath(__file__)))
-ANSWERS = ["none", "new", "found", "full", "open"]
+from library import ANSWERS, Table, Word, level_count, read
+
 MARK = 0xABCD0000  # stands, with its place added, in each word behind a record's head before the first turn
 
-
-def read(path):
-    with open(os.path.join(ROOT, path), encoding="utf-8") as f:
-        return f.read()
-
-
-# The library.
-
-Word = ctypes.c_uint32
-
-
-class Settings(ctypes.Structure):
-    _fields_ = [(name, Word) for name in ("workers", "limit", "nodes", "nodes_taken", "levels_taken")]
-
-
-class Reply(ctypes.Structure):
-    _fields_ = [(name, Word) for name in ("number", "answer", "node", "turns")] + [("settings", Settings)]
-
-
-def library():
-    path = os.path.join(ROOT, "target/tests/libleafdrum.so")
-    os.makedirs(os.path.dirname(path), exist_ok=True)
-    subprocess.run(["gcc", "-shared", "-o", path, "-Wl,--whole-archive", os.path.join(ROOT, "target/staticlib/libexport.a"), "-Wl,--no-whole-archive"], check=True)
-    lib = ctypes.CDLL(path)
-    for name in ("open", "start", "turn", "last"):
-        getattr(lib, "leafdrum_" + name).restype = Reply
-    lib.leafdrum_level_count.restype = Word
-    return lib
+# What the page says of a word in its content column, by the name that the facts below have for the word; the name column of the workers has the same names.
+CONTENTS = {
+    "Nodes": {"pixel": "pixel number of node i", "next": "next: a reference"},
+    "Levels": {"previous": "number of the previous level (not a reference)", "depth": "depth", "entry": "entry e, "},
+    "Workers": {
+        "kind": "the kind of the next turn",
+        "pixel": "the call's pixel number",
+        "level": "H in a search; in a Move the level that the node N is set into",
+        "node": "R, the node whose next is read",
+        "count": "R's place in its chain",
+        "held node": "of the node in hand (Put, Append) or spare",
+        "held level": "of the level in hand (Close, SetClose) or spare",
+        "answer": "of the last ended call",
+        "answer's node": "of \"new\" and \"found\"",
+        "Moves": "how many Moves are open, one inside another",
+        "Move j: home": "the level H whose chain moves",
+        "Move j: child": "the level G that it moves to",
+        "Move j: count": "how many nodes are remembered",
+        "Move j: nodes": "the remembered nodes' numbers, in the chain's order",
+    },
+}
 
 
-LIB = library()
-
-
-class Table:
-    """A table over nodes, levels and workers of such lengths; every word is 77 before the opening."""
-
-    def __init__(self, workers, limit, nodes, lengths=(64, 2000, 512)):
-        self.settings = Settings(workers, limit, nodes, 0, 0)
-        self.areas = [(Word * n)(*[77] * n) for n in lengths]
-        self.opened = self.ask("open") == 0
-
-    def ask(self, name, *given):
-        lent = [x for area in self.areas for x in (area, ctypes.c_size_t(len(area)))]
-        self.reply = getattr(LIB, "leafdrum_" + name)(self.settings, *map(Word, given), *lent)
-        if self.reply.number in (0, 9):
-            self.settings = self.reply.settings
-        return self.reply.number
-
-
-# The document.
+# The page.
 
 def number(text):
     return int(text.replace(",", ""))
@@ -77,8 +49,12 @@ def formula(text):
     return found
 
 
-class Missing(Exception):
-    """A sentence that the document does not have."""
+def value(of, **letters):
+    return sum(n * ({"": 1} | letters).get(letter, 0) for letter, n in of.items())
+
+
+class Misread(Exception):
+    """What the page does not say."""
 
 
 class Layout:
@@ -86,88 +62,112 @@ class Layout:
 
     def __init__(self, text):
         self.flat = " ".join(text.split())
-        rows = {}
-        for title, body in re.findall(r"^## (\w+)[^\n]*\n(.*?)(?=^## |\Z)", text, re.M | re.S):
-            rows[title] = [[cell.strip() for cell in row.strip("|").split("|")] for row in re.findall(r"^\|.*\|$", body, re.M)[2:]]
-        self.places = dict(zip(("pixel", "next"), [formula(row[0]) for row in rows["Nodes"]]))
-        self.places.update(zip(("previous", "depth", "entry"), [formula(row[0]) for row in rows["Levels"]]))
-        self.words, self.moves, self.unused = {}, {}, []
-        for place, name, _ in rows["Workers"]:
-            first, last = (formula(p) for p in (place.split(" to ") * 2)[:2])
-            if not name:
-                self.unused += range(first[""], last[""] + 1)
-            elif name.startswith("Move j: "):
-                self.moves[name[8:]] = (first, last)
-            else:
-                self.words[name] = first[""]
-        self.record, = self.says(r"Worker i's words begin at (N) i\.")
-        self.kinds = self.named(r"Kinds: (.*?)\.")
-        self.kinds.update(self.named(r"\| (\d+ idle), "))
+        self.places, self.unused = {}, []
+        for title, contents in CONTENTS.items():
+            self.places[title] = dict(self.rows(text, title, contents))
+            for word in contents:
+                if word not in self.places[title]:
+                    raise Misread("%s: no row says '%s'" % (title, contents[word]))
+        self.head = {word: first[""] for word, (first, _) in self.places["Workers"].items() if not word.startswith("Move j")}
+        self.worker_words, = self.says(r"Worker i's words begin at (N) i\.")
+        self.kinds = self.named(r"Kinds: (.*?)\.") | self.named(r"\| (\d+ idle), ")
         self.answers = self.named(r"of the last ended call: (.*?) \|")
         self.none, = self.says(r"\(not a reference\); (N): none")
         self.level, self.node, self.node_more = self.says(r"A reference is (N) g for level g and (N) i \+ (N) for node i\.")
         self.held = {name: self.says(r"\| %s \| number \+ (N) of [^|]*; (N): none \|" % name) for name in ("held node", "held level")}
 
-    def says(self, pattern):
-        """The numbers of a sentence; (N) stands for one."""
+    def rows(self, text, title, contents):
+        """The words of the table below a heading, each with the formulas of its first and its last place."""
+        body = re.search(r"^## %s\b[^\n]*\n(.*?)(?=^## |\Z)" % title, text, re.M | re.S)
+        if not body:
+            raise Misread("no heading '%s'" % title)
+        for row in re.findall(r"^\|(.*)\|$", body.group(1), re.M)[2:]:
+            try:
+                place, *name, content = (cell.strip() for cell in row.split("|"))
+                first, last = (formula(p) for p in (place.split(" to ") * 2)[:2])
+            except ValueError:
+                raise Misread("%s: no place and content in the row %s" % (title, row.strip()))
+            word = next((w for w, said in contents.items() if said in content), "")
+            if name not in ([], [word]) or (content == "not used") == bool(word):
+                raise Misread("%s: name and content of word %s do not belong together: %s" % (title, place, row.strip()))
+            if word:
+                yield word, (first, last)
+            else:
+                self.unused += range(first[""], last[""] + 1)
+
+    def part(self, pattern):
+        """The parts of a sentence; (N) stands for a number."""
         found = re.search(pattern.replace("(N)", r"(\d+(?:,\d{3})*)"), self.flat)
         if not found:
-            raise Missing(pattern)
-        return tuple(map(number, found.groups()))
+            raise Misread("no sentence '%s'" % pattern.replace("\\", ""))
+        return found.groups()
+
+    def says(self, pattern):
+        return tuple(map(number, self.part(pattern)))
 
     def named(self, pattern):
-        """The names that stand behind numbers in a part of the document."""
-        return {name: int(n) for n, name in re.findall(r"(\d+) (\w+)", re.search(pattern, self.flat).group(1))}
+        """The names that stand behind numbers in a part of the page."""
+        return {name: int(n) for n, name in re.findall(r"(\d+) (\w+)", self.part(pattern)[0])}
 
-    def move_word(self, name, j, k=0):
-        first, _ = self.moves[name]
-        return first[""] + first["j"] * j + k
+    def at(self, title, word, **letters):
+        return value(self.places[title][word][0], **letters)
+
+    def order(self, title):
+        """The names of a table in the order of their places."""
+        return sorted(self.places[title], key=lambda word: self.at(title, word))
 
     def covered(self, moves):
         """The words of a record that the table of words names, in order."""
-        found = list(self.words.values()) + self.unused
-        for first, last in self.moves.values():
-            for j in range(moves):
-                found += range(first[""] + first["j"] * j, last[""] + last["j"] * j + 1)
+        found = list(self.unused)
+        for first, last in self.places["Workers"].values():
+            for j in range(moves if "j" in first else 1):
+                found += range(value(first, j=j), value(last, j=j) + 1)
         return sorted(found)
 
     def place(self, fact):
         """The area and the place in it that a fact is about, and the word that stands there if the fact holds."""
-        what, i, name, *more, value = fact
-        if isinstance(value, tuple):
-            value = self.level * value[1] if value[0] == "level" else self.node * value[1] + self.node_more
-        if what == "worker":
-            value = self.kinds.get(value) if name == "kind" else self.answers.get(value) if name == "answer" else value
-            if name in self.held:
-                value = self.held[name][1] if value is None else value + self.held[name][0]
-            return 2, self.record * i + self.words[name], value
+        what, i, name, *more, word = fact
+        if isinstance(word, tuple):
+            word = self.level * word[1] if word[0] == "level" else self.node * word[1] + self.node_more
+        if what == "node":
+            return 0, self.at("Nodes", name, i=i), word
+        if what == "level":
+            return 1, self.at("Levels", name, g=i, e=sum(more)), self.none if word is None else word
         if what == "move":
-            return 2, self.record * i + self.move_word(name, *more), value
-        place = self.places[name]
-        at = place["i"] * i if what == "node" else place["g"] * i + place.get("e", 0) * sum(more)
-        return ("node", "level").index(what), at + place[""], self.none if value is None else value
+            return 2, self.worker_words * i + self.at("Workers", "Move j: " + name, j=more[0]) + sum(more[1:]), word
+        word = self.kinds.get(word) if name == "kind" else self.answers.get(word) if name == "answer" else word
+        if name in self.held:
+            word = self.held[name][1] if word is None else word + self.held[name][0]
+        return 2, self.worker_words * i + self.head[name], word
 
 
 # Calls whose turns document 01 tells.
 
 class Watched(Table):
-    """A table and its moments: what its areas held, and the facts that should be read from them."""
+    """A table and its moments: what its areas held, and the facts that should be read from them. `turned` are the words of a record that turns have changed."""
 
     def __init__(self, layout, *sizes):
+        self.moments, self.turned, self.worker_words = [], set(), layout.worker_words
         super().__init__(*sizes)
-        self.moments = []
         for i in range(self.settings.workers):
-            for k in range(max(layout.words.values()) + 1, layout.record):
-                self.areas[2][layout.record * i + k] = MARK + k
+            for k in range(max(layout.head.values()) + 1, self.worker_words):
+                self.areas[2][self.worker_words * i + k] = MARK + k
         for i in range(self.settings.workers):
-            self.record(i, kind="idle", answer="none", held_node=None, held_level=None, Moves=0)
+            self.shows(i, kind="idle", answer="none", held_node=None, held_level=None, Moves=0)
         self.sees(("level", 0, "previous", None), ("level", 0, "depth", 0), *[("level", 0, "entry", e, ("level", 0)) for e in range(8)])
+
+    def ask(self, name, *given):
+        before = list(self.areas[2])
+        refused_by = super().ask(name, *given)
+        if name == "turn":
+            self.turned |= {at - self.worker_words * given[0] for at, word in enumerate(self.areas[2]) if word != before[at]}
+        return refused_by
 
     def sees(self, *facts):
         self.moments.append(([list(area) for area in self.areas], self.settings.workers, facts))
 
-    def record(self, i, **words):
-        self.sees(*[("worker", i, name.replace("_", " "), value) for name, value in words.items()])
+    def shows(self, i, **words):
+        self.sees(*[("worker", i, name.replace("_", " "), word) for name, word in words.items()])
 
     def move(self, i, j, home, child, nodes, count=None):
         self.sees(("move", i, "home", j, home), ("move", i, "child", j, child), ("move", i, "count", j, len(nodes) if count is None else count),
@@ -176,12 +176,12 @@ class Watched(Table):
     def begin(self, i, pixel):
         if self.ask("start", i, pixel >> 12, pixel & 4095):
             sys.exit("layout: a start is refused by %d" % self.reply.number)
-        self.record(i, kind="Look", pixel=pixel, level=0, Moves=0)
+        self.shows(i, kind="Look", pixel=pixel, level=0, Moves=0)
 
     def turns(self, i, kinds):
         """Turns of worker i, of these kinds."""
         for kind in kinds.split():
-            self.record(i, kind=kind)
+            self.shows(i, kind=kind)
             if self.ask("turn", i) not in (0, 9):
                 sys.exit("layout: %s is refused by %d" % (kind, self.reply.number))
 
@@ -205,7 +205,7 @@ def chains(layout):
     t.call(2, b, "Look Read Tail TakeTail Append", "new", 1)
     t.begin(1, c)
     t.turns(1, "Look Read Tail Follow Tail TakeTail")
-    t.record(1, kind="Append", pixel=c, level=0, node=1, count=2, held_node=2)
+    t.shows(1, kind="Append", pixel=c, level=0, node=1, count=2, held_node=2)
     t.turns(1, "Append")
     t.ends(1, "new", 2)
     t.sees(("node", 0, "pixel", a), ("node", 1, "pixel", b), ("node", 2, "pixel", c), ("node", 0, "next", ("node", 1)), ("node", 1, "next", ("node", 2)),
@@ -215,16 +215,17 @@ def chains(layout):
     t.begin(1, d)
     t.turns(0, "Look Take")
     t.turns(1, "Look Take")
+    t.shows(1, kind="Put", held_node=4)
     t.turns(0, "Put")
     t.ends(0, "new", 3)
     t.turns(1, "Put Read")
     t.ends(1, "found", 3)
-    t.record(1, held_node=4)
+    t.shows(1, held_node=4)
     t.call(1, 0o60000000, "Look Take Put", "new", 4)
-    t.record(1, held_node=None)
+    t.shows(1, held_node=None)
     t.call(1, 0o70000000, "Look Take Put", "new", 5)
     t.call(1, 0o40000000, "Look Take", "full", 0)
-    return t.moments
+    return t
 
 
 def one_node_moves(layout):
@@ -232,17 +233,17 @@ def one_node_moves(layout):
     t.call(2, 0o12345670, "Look Take Put", "new", 0)
     t.begin(2, 0o17000001)
     t.turns(2, "Look Read Tail Level")
-    t.record(2, kind="Close", level=0, node=0, count=1, held_level=1, Moves=0)
+    t.shows(2, kind="Close", level=0, node=0, count=1, held_level=1, Moves=0)
     t.turns(2, "Close")
-    t.record(2, kind="ChainHead", held_level=None, Moves=1)
+    t.shows(2, kind="ChainHead", held_level=None, Moves=1)
     t.move(2, 0, 0, 1, [0] * 8, 0)
     t.turns(2, "ChainHead ChainNext SetNext SetLook SetPut MoveEnd")
-    t.record(2, kind="Look", level=1, Moves=0)
+    t.shows(2, kind="Look", level=1, Moves=0)
     t.turns(2, "Look Take Put")
     t.ends(2, "new", 1)
     t.sees(("level", 0, "entry", 1, ("level", 1)), ("level", 1, "previous", 0), ("level", 1, "depth", 1), ("level", 1, "entry", 2, ("node", 0)),
            ("level", 1, "entry", 7, ("node", 1)), *[("level", 1, "entry", e, ("level", 1)) for e in (0, 1, 3, 4, 5, 6)], ("node", 0, "next", ("level", 1)))
-    return t.moments
+    return t
 
 
 def three_nodes_move(layout):
@@ -257,10 +258,10 @@ def three_nodes_move(layout):
     t.turns(0, "SetNext SetLook SetPut SetNext SetLook SetRead SetTail SetAppend")
     t.move(0, 0, 0, 1, [0])
     t.turns(0, "SetNext SetLook SetRead SetTail SetFollow SetTail")
-    t.record(0, kind="SetAppend", level=1, node=1, count=2, Moves=1)
+    t.shows(0, kind="SetAppend", level=1, node=1, count=2, Moves=1)
     t.turns(0, "SetAppend MoveEnd Look Take Put")
     t.ends(0, "new", 3)
-    return t.moments
+    return t
 
 
 def eight_nodes_move(layout):
@@ -272,7 +273,7 @@ def eight_nodes_move(layout):
     t.begin(0, 0o12000000)
     t.turns(0, "Look Read Tail " + "Follow Tail " * 7 + "Level Close ChainHead" + " ChainNext" * 8)
     t.move(0, 0, 0, 1, [1, 2, 3, 4, 5, 6, 7, 8])
-    return t.moments
+    return t
 
 
 def move_inside_a_move(layout):
@@ -283,15 +284,15 @@ def move_inside_a_move(layout):
     t.turns(0, "Look Read Tail Level Close ChainHead ChainNext SetNext")
     t.call(1, 0o11100000, "Look Read Tail Follow Look Take Put", "new", 1)
     t.turns(0, "SetLook SetRead SetTail SetLevel")
-    t.record(0, kind="SetClose", level=1, node=1, held_level=2, Moves=1)
+    t.shows(0, kind="SetClose", level=1, node=1, held_level=2, Moves=1)
     t.turns(0, "SetClose ChainHead ChainNext")
-    t.record(0, kind="SetNext", level=2, Moves=2)
+    t.shows(0, kind="SetNext", level=2, Moves=2)
     t.move(0, 0, 0, 1, [0])
     t.move(0, 1, 1, 2, [1])
     t.turns(0, "SetNext SetLook SetPut MoveEnd SetNext SetLook SetPut MoveEnd Look Take Put")
     t.ends(0, "new", 2)
     t.sees(("level", 2, "previous", 1), ("level", 2, "depth", 2), ("level", 2, "entry", 0, ("node", 0)), ("level", 2, "entry", 1, ("node", 1)))
-    return t.moments
+    return t
 
 
 def seven_moves(layout):
@@ -306,10 +307,10 @@ def seven_moves(layout):
             t.ask("turn", 1)
         t.ends(1, "new", k)
         t.turns(0, "SetLook SetRead SetTail SetLevel SetClose ChainHead ChainNext SetNext")
-    t.record(0, kind="SetLook", level=7, Moves=7)
+    t.shows(0, kind="SetLook", level=7, Moves=7)
     for j in range(7):
         t.move(0, j, j, j + 1, [j])
-    return t.moments
+    return t
 
 
 # Numbers that the library shows.
@@ -319,11 +320,10 @@ class Measured:
 
     def __init__(self, layout, tables):
         self.layout = layout
-        levels = LIB.leafdrum_level_count(Settings(3, 2, 5, 0, 0))
-        self.node, self.level, self.record = (self.least(k) // count for k, count in enumerate((5, levels, 3)))
+        self.node_words, self.level_words, self.worker_words = (self.least(k) // count for k, count in enumerate((5, level_count(3, 2, 5), 3)))
         self.zeroed = sum(word == 0 for word in Table(3, 2, 5).areas[2]) // 3
-        self.started = self.changed_by_a_start()
-        self.turned = [k for k in range(16) if any(self.changed(k, *pair) for table in tables for pair in zip(table, table[1:]))]
+        self.started = self.written_by_a_start()
+        self.turned = sorted(set().union(*[t.turned for t in tables]) - set(range(layout.at("Workers", "Move j: home"), self.worker_words)))
         self.answers = [n for n in range(99) if self.takes(0, answer=n)]
         kinds = [k for k in range(1, 99) if any(self.takes(k, moves=m) for m in ([], [0], [1]))]
         moves = {k: next(m for m in ([], [0], [1]) if self.takes(k, moves=m)) for k in kinds}
@@ -342,7 +342,7 @@ class Measured:
     @staticmethod
     def least(area):
         """The least length of an area that an opening takes."""
-        return 1 + Measured.most(lambda n: not Table(3, 2, 5, [n if k == area else 2000 for k in range(3)]).opened, 2000)
+        return 1 + Measured.most(lambda n: Table(3, 2, 5, [n if k == area else 2000 for k in range(3)]).opened == 2, 2000)
 
     @staticmethod
     def most(holds, below=2 ** 32):
@@ -357,47 +357,49 @@ class Measured:
         found = [n for n in range(10) if holds(n)]
         return (found[0], found[-1]) if found == list(range(found[0], found[-1] + 1)) else None
 
-    def changed(self, k, one, two):
-        return any(one[0][2][self.record * i + k] != two[0][2][self.record * i + k] for i in range(one[1]))
-
     def takes(self, kind, answer=0, pixel=0, count=1, moves=(), limit=3):
         """Whether a record fits its layout: its last answer is read. `moves` has how many nodes each Move remembers."""
         t, lay = Table(2, limit, 5, (10, 100, 256)), self.layout
-        for name, value in (("kind", kind), ("answer", answer), ("pixel", pixel), ("count", count), ("Moves", len(moves))):
-            t.areas[2][lay.record + lay.words[name]] = value
+        for name, word in (("kind", kind), ("answer", answer), ("pixel", pixel), ("count", count), ("Moves", len(moves))):
+            t.areas[2][lay.worker_words + lay.head[name]] = word
         for j, n in enumerate(moves):
-            t.areas[2][lay.record + lay.move_word("count", j)] = n
+            t.areas[2][lay.worker_words + lay.at("Workers", "Move j: count", j=j)] = n
         return t.ask("last", 1) == 0
 
-    def changed_by_a_start(self):
+    def written_by_a_start(self):
         t, lay = Table(2, 3, 5), self.layout
-        before = [MARK + k for k in range(lay.record)]
-        before[lay.words["kind"]], before[lay.words["answer"]] = 0, 2
-        t.areas[2][lay.record:2 * lay.record] = before
+        before = [MARK + k for k in range(lay.worker_words)]
+        before[lay.head["kind"]], before[lay.head["answer"]] = 0, 2
+        t.areas[2][lay.worker_words:2 * lay.worker_words] = before
         t.ask("start", 1, 1, 1)
-        return [k for k in range(lay.record) if t.areas[2][lay.record + k] != before[k]]
+        return [k for k in range(lay.worker_words) if t.areas[2][lay.worker_words + k] != before[k]]
 
-    def sentences(self, lay):
-        """Sentences of the document with the numbers that they should have; in its picture they are those of its tables."""
-        head = sorted(lay.words, key=lay.words.get)
-        unused = [k for k in lay.unused if k < lay.move_word("home", 0)]
-        home = [lay.move_word("home", j) for j in range(self.moves[1] + 1)]
-        entries = self.level - 2
+    def picture(self, lay):
+        """The page's picture, without its blanks: names in the order of the tables' places, numbers as they are measured."""
+        node, moved = " ".join(lay.order("Nodes")), [w[8:] for w in lay.order("Workers") if w.startswith("Move j")]
+        level = " ".join(lay.order("Levels")[:-1])
+        head = sorted(lay.head, key=lay.head.get)
+        unused = [k for k in lay.unused if k < lay.at("Workers", "Move j: home")]
+        home = [lay.at("Workers", "Move j: home", j=j) for j in range(self.moves[1] + 1)]
+        return " ".join([
+            "nodes | %s | %s | %s | ... %d words a node node 0 node 1 node 2" % (node, node, node, self.node_words),
+            "levels | %s %s | %s ... %d words a level" % (level, " ".join("e%d" % e for e in range(self.level_words - 2)), level, self.level_words),
+            "level 0: the root level 1 workers | worker 0: %d words | worker 1: %d words | ..." % (self.worker_words, self.worker_words),
+            "a worker | " + " | ".join("%d %s" % (k, {"answer's node": "its node"}.get(name, name)) for k, name in enumerate(head)),
+            "| %d-%d - | | %d Move 0: %s n0 .. n%d" % (unused[0], unused[-1], home[0], " ".join(moved[:-1]), self.most_nodes - 1),
+            "| %d Move 1: the same | ... | %d Move %d | %d-%d - |" % (home[1], home[-2], len(home) - 2, home[-1], self.worker_words - 1),
+            "the outermost Move the Move inside it"])
+
+    def sentences(self):
+        """Sentences of the page with the numbers that they should have."""
+        entries = self.level_words - 2
         return [
             (r"All words are (N)-bit unsigned\. Sizes are for digit width (N);", [8 * ctypes.sizeof(Word), entries.bit_length() - 1]),
-            (r"\.\.\. (N) words a node node (N) node (N) node (N) levels", [self.node, 0, 1, 2]),
-            (r"\| previous depth" + r" e(N)" * entries + r" \|", list(range(entries))),
-            (r"\.\.\. (N) words a level level (N): the root level (N) workers", [self.level, 0, 1]),
-            (r"\| worker (N): (N) words \| worker (N): (N) words \|", [0, self.record, 1, self.record]),
-            (r"a worker \|" + "".join(r" (N) %s \|" % {"answer's node": "its node"}.get(name, name) for name in head) + r" (N)-(N) - \|",
-             list(range(len(head))) + [unused[0], unused[-1]]),
-            (r"\| (N) Move (N): home child count n(N) \.\. n(N) \| (N) Move (N): the same \| \.\.\. \| (N) Move (N) \| (N)-(N) - \|",
-             [home[0], 0, 0, self.most_nodes - 1, home[1], 1, home[-2], len(home) - 2, home[-1], self.record - 1]),
             (r"two pixels in one chain of level (N)\.", [0]),
-            (r"## Nodes: (N) words each", [self.node]),
-            (r"## Levels: (N) words each", [self.level]),
+            (r"## Nodes: (N) words each", [self.node_words]),
+            (r"## Levels: (N) words each", [self.level_words]),
             (r"\| entry e, (N) to (N): a reference \|", [0, entries - 1]),
-            (r"## Workers: (N) words each", [self.record]),
+            (r"## Workers: (N) words each", [self.worker_words]),
             (r"An opening zeroes all (N);", [self.zeroed]),
             (r"\| (N) idle, (N) to (N) the kind of the next turn", [0, 1, self.last_kind]),
             (r"R's place in its chain, from (N); past the limit it stays at limit \+ (N) \|", [self.count[0], self.count[1] - 3]),
@@ -408,52 +410,57 @@ class Measured:
             (r"Kinds:" + r" (N) \w+,?" * len(self.searching) + r" \(searching\);" + r" (N) \w+,?" * (self.last_kind - len(self.searching)) + r" \(moving\)\.",
              self.searching + sorted(self.empty + self.holding)),
             (r"A start changes words (N), (N), (N) and (N): kind Look, the pixel, level (N), no Move\.", self.started + [0]),
-            (r"A turn changes words (N) to (N) as its kind says", [self.turned[0], self.turned[-1]]),
+            (r"A turn changes words (N) and (N) to (N) as its kind says", bounds(self.turned)),
             (r"a new Move is written with count (N) and eight zeros", [0]),
             (r"- Idle: answer (N) to (N)\.", [self.answers[0], self.answers[-1]]),
             (r"- Open: pixel ≤ (N)\. At a node of a chain \(kinds (N) to (N) and (N) to (N)\): count (N) to limit \+ (N)\.",
-             [self.pixel] + ends(self.counted) + [self.count[0], self.count[1] - 3]),
-            (r"- Searching: no Move\. Moving: (N) to (N) Moves; each but the innermost remembers (N) to limit nodes; the innermost remembers (N) to limit nodes in kinds (N) to (N) "
-             r"and none in (N) and (N)\.", [*self.moves, self.outer[0], self.inner[0]] + ends(self.holding) + self.empty),
+             [self.pixel] + bounds(self.counted) + [self.count[0], self.count[1] - 3]),
+            (r"- Searching: no Move\. Moving: (N) to (N) Moves; each but the innermost remembers (N) to limit nodes; the innermost remembers (N) to limit nodes "
+             r"in kinds (N) to (N) and none in (N) and (N)\.", [*self.moves, self.outer[0], self.inner[0]] + bounds(self.holding) + self.empty),
             (r"- A kind number above (N) does not fit\.", [self.last_kind]),
         ]
 
 
-def ends(numbers):
+def bounds(numbers):
     """The first and the last number of each unbroken row."""
     return [n for n in numbers if n - 1 not in numbers or n + 1 not in numbers]
 
 
 def misplaced(lay, tables):
-    """Facts that the words at the document's places do not show, one by one."""
+    """Facts that the words at the page's places do not show, one by one."""
     seen = set()
-    for areas, workers, facts in sum(tables, []):
+    for areas, workers, facts in (moment for t in tables for moment in t.moments):
         seen.update(fact[3] for fact in facts if fact[2] == "kind")
         for fact in facts:
             area, at, word = lay.place(fact)
             if at >= len(areas[area]) or areas[area][at] != word:
                 yield "%s: word %d is not %s" % (fact, at, word)
-        for at in (lay.record * i + k for i in range(workers) for k in lay.unused):
-            if at >= len(areas[2]) or areas[2][at] != MARK + at % lay.record:
+        for at in (lay.worker_words * i + k for i in range(workers) for k in lay.unused):
+            if at >= len(areas[2]) or areas[2][at] != MARK + at % lay.worker_words:
                 yield "word %d is used" % at
     if seen != set(lay.kinds):
         yield "no call had the kinds %s" % sorted(set(lay.kinds) ^ seen)
 
 
 def mismeasured(lay, measured):
-    """Numbers of the document that the library does not show, one by one."""
-    if lay.covered(measured.moves[1]) != list(range(measured.record)):
-        yield "the table of words does not name each of %d words once" % measured.record
-    for pattern, numbers in measured.sentences(lay):
-        if list(lay.says(pattern)) != numbers:
-            yield "%s: %s, not %s" % (pattern, lay.says(pattern), numbers)
+    """What the page says otherwise than the library shows it, one by one."""
+    if lay.covered(measured.moves[1]) != list(range(measured.worker_words)):
+        yield "the table of words does not name each of %d words once" % measured.worker_words
+    elif "``` %s ```" % measured.picture(lay) not in lay.flat:
+        yield "the picture is not: " + measured.picture(lay)
+    for pattern, numbers in measured.sentences():
+        try:
+            if list(lay.says(pattern)) != numbers:
+                yield "'%s' has %s, not %s" % (pattern.replace("\\", ""), list(lay.says(pattern)), numbers)
+        except Misread as what:
+            yield str(what)
 
 
 def other_words(lay):
     """What bench/by_hand.c numbers otherwise: it has the same record."""
     hand = read("bench/by_hand.c")
     short = {"held node": "HNODE", "held level": "HLEVEL", "answer's node": "ANODE"}
-    for start, prefix, names in (("enum kind { ", "", lay.kinds), ("enum { ", "W_", lay.words)):
+    for start, prefix, names in (("enum kind { ", "", lay.kinds), ("enum { ", "W_", lay.head)):
         wanted = ", ".join(prefix + short.get(name, name).upper() for name in sorted(names, key=names.get))
         if start + wanted + " };" not in hand:
             yield "bench/by_hand.c has not %s%s };" % (start, wanted)
@@ -463,47 +470,56 @@ def noticed(text, tables, measured):
     try:
         lay = Layout(text)
         return any(misplaced(lay, tables)) or any(mismeasured(lay, measured))
-    except Missing:
+    except Misread:
         return True
 
 
-# Names that stand next to each other: kinds and answers behind their numbers, the words of a head, the words of a Move
-NAME = r"([A-Z]\w+|none|new|found|full)"
-NEIGHBOURS = [r"(?<=\d )%s(,\s\d+ )%s\b" % (NAME, NAME), r"(?<=\d \| )([^|]+)( \|[^\n]*\n\| \d+ \| )([^|]+)(?= \|)", r"(?<= j \| Move j: )(\w+)( \|[^\n]*\n\| [^|]* j \| Move j: )(\w+)"]
-
-
-def changed(text):
-    """Each text with one number higher or lower by one, or with two neighbours exchanged, and what was changed."""
+def wrong_pages(text):
+    """Pages with one number higher or lower by one, or with two names or contents exchanged, and what was done."""
     for m in re.finditer(r"\d+(?:,\d{3})*", text):
         old = number(m.group())
         for new in (old - 1, old + 1) if old else (1,):
             yield "%d for %r" % (new, text[m.start():m.start() + 20]), text[:m.start()] + format(new, "," if "," in m.group() else "d") + text[m.end():]
-    for pattern in NEIGHBOURS:
+    for m in re.finditer(r"\b(inn|out)(?=ermost\b)", text):
+        yield "another end for %r" % text[m.start():m.start() + 20], text[:m.start()] + {"inn": "out", "out": "inn"}[m.group()] + text[m.end():]
+    # neighbours: kinds and answers behind their numbers, words of the picture
+    name = r"([A-Z]\w+|none|new|found|full)"
+    picture = re.search(r"```.*?```", text, re.S)
+    for pattern, until in ((r"(?<=\d )%s(,\s\d+ )%s\b" % (name, name), len(text)), (r"\b([A-Za-z]\w*)([^A-Za-z]+)([A-Za-z]\w*)", picture.end())):
         at = 0
-        while m := re.compile(pattern).search(text, at):
+        while m := re.compile(pattern).search(text, at, until):
             at = m.end(1)
-            yield "%s for %s" % (m.group(3), m.group(1)), text[:m.start()] + m.group(3) + m.group(2) + m.group(1) + text[m.end():]
+            if m.start() > picture.start() and m.group(1) != m.group(3):
+                yield "%s for %s" % (m.group(3), m.group(1)), text[:m.start()] + m.group(3) + m.group(2) + m.group(1) + text[m.end():]
+    # and the cells of two rows, in each column but that of the places
+    lines = text.split("\n")
+    for k, (one, two) in enumerate(zip(lines, lines[1:])):
+        cells = one.split("|"), two.split("|")
+        for c in range(2, len(cells[0]) - 1) if one.startswith("| ") and two.startswith("| ") else ():
+            if cells[0][c] != cells[1][c]:
+                rows = ["|".join(row[:c] + [other[c]] + row[c + 1:]) for row, other in (cells, cells[::-1])]
+                yield "%s for %s" % (cells[1][c], cells[0][c]), "\n".join(lines[:k] + rows + lines[k + 2:])
 
 
 def main():
-    document = read("docs/LAYOUT.md")
+    page = read("docs/LAYOUT.md")
     try:
-        layout = Layout(document)
+        layout = Layout(page)
         tables = [calls(layout) for calls in (chains, one_node_moves, three_nodes_move, eight_nodes_move, move_inside_a_move, seven_moves)]
         bad = list(misplaced(layout, tables))
         if not bad:
             measured = Measured(layout, tables)
             bad = list(mismeasured(layout, measured)) + list(other_words(layout))
-    except Missing as pattern:
-        bad = ["LAYOUT.md has no sentence %s" % pattern]
+    except Misread as what:
+        bad = [str(what)]
     if not bad:
-        tried = list(changed(document))
+        tried = list(wrong_pages(page))
         bad = ["not noticed: " + what for what, text in tried if not noticed(text, tables, measured)]
     for line in bad[:9]:
         print("layout: " + line)
     if bad:
         sys.exit(1)
-    print("layout: LAYOUT.md is as the library shows in %d moments; %d wrong numbers and names are noticed" % (len(sum(tables, [])), len(tried)))
+    print("layout: LAYOUT.md is as the library shows in %d moments; %d wrong numbers, names and contents are noticed" % (sum(len(t.moments) for t in tables), len(tried)))
 
 
 if __name__ == "__main__":
