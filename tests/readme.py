@@ -1,20 +1,16 @@
 #!/usr/bin/env python3
-"""What README.md and docs/ say of the repository: each link leads to a file, each name that stands before a link is declared there, the race prints what the
-README shows, the worked memory is as the sizes give it, crates and must-fail edits are as many as it says, and it names each test that run.sh runs.
-Relies on crates.txt, crates/*/must-fail, tests/run.sh and the program."""
+"""What README.md, docs/ and the header's comments say: links, names before links, the race, the memory to lend, counts; and that each file of tests/ is run.
+Relies on tests/library.py, the program, crates.txt, crates/*/must-fail and tests/run.sh."""
 import glob
 import os
 import re
 import subprocess
 import sys
 
-ROOT = os.path.dirname(os.path.dirname(os.path.abspath(__file__)))
+from library import ROOT, Table, level_count, read
+
+COUNTS = "no one two three four five six seven eight nine ten".split()
 bad = []
-
-
-def read(path):
-    with open(os.path.join(ROOT, path), encoding="utf-8") as f:
-        return f.read()
 
 
 def declared(name, text):
@@ -36,20 +32,64 @@ for path in ["README.md"] + sorted(os.path.relpath(p, ROOT) for p in glob.glob(o
             names += 1
             if not os.path.exists(os.path.join(ROOT, target)) or not declared(name, read(target)):
                 bad.append("%s: %s is not declared in %s" % (path, name, target))
+if names < 10:
+    bad.append("only %d names stand before links: they are written in another way than this test reads" % names)
 
-readme = read("README.md")
-shown = re.search(r"\$ \./leafdrum < (examples/race\.txt)\n(.*?)```", readme, re.S)
-with open(os.path.join(ROOT, shown.group(1)), "rb") as race:
-    printed = subprocess.run([os.path.join(ROOT, "leafdrum")], stdin=race, stdout=subprocess.PIPE, check=True).stdout.decode()
-if printed != shown.group(2):
-    bad.append("README.md shows another race than the program prints")
+readme, header = read("README.md"), read("include/leafdrum.h")
+race = re.search(r"\$ \./leafdrum < (examples/race\.txt)\n(.*?)```", readme, re.S)
+printed = race and subprocess.run([os.path.join(ROOT, "leafdrum")], input=read(race.group(1)).encode(), stdout=subprocess.PIPE, check=True).stdout.decode()
+if not race or printed != race.group(2):
+    bad.append("README.md does not show the race that the program prints")
 
-nodes, limit, workers = 4096, 4, 16
-levels = 1 + 7 * (nodes // limit) + workers
-words = [2 * nodes, 10 * levels, 128 * workers]
-for number in words + [levels, sum(words), 4 * sum(words)]:
-    if "{:,}".format(number) not in readme:
-        bad.append("README.md: the worked memory has no {:,}".format(number))
+
+def worth(formula, **values):
+    """What '1 + 7 × (nodes / limit) + workers' is worth; 0 where it is no formula in the names of these values."""
+    terms = re.sub(r"`|\(settings\)", "", formula).replace("×", "*").replace("/", "//")
+    known = set(re.findall(r"[a-z_]+", terms)) <= set(values)
+    return eval(terms, {}, values) if known and re.fullmatch(r"[\w\s+*/()]+", terms) else 0
+
+
+def memory():
+    """What README.md and the header say of the memory to lend otherwise than the library asks for it, in the worked size and in others."""
+    row = r"\| %s \| ([^|\n]*) \| ([^|\n]*) \|\n"
+    table = re.search(r"\| area \| words \| ([\d,]+) nodes, chain limit (\d+), (\d+) workers \|\n\|[-|]*\|\n" + row % "nodes" + row % "levels" + row % "workers", readme)
+    needed = re.search(r"Words needed: nodes (.*?), levels (.*?),\s+workers (.*?)\. ", header)
+    if not table or not needed:
+        return ["%s does not have its sizes in the form that this test reads" % ("include/leafdrum.h" if table else "README.md")]
+    wrong = []
+    nodes, limit, workers = (int(n.replace(",", "")) for n in table.groups()[:3])
+    (of_nodes, of_levels, of_workers), shown = table.groups()[3::2], list(table.groups()[4::2])
+    of_levels, _, count_is = of_levels.partition(", which is ")
+    for size in ({"nodes": n, "limit": l, "workers": w} for n, l, w in ((11, 2, 3), (1, 8, 1), (63, 8, 5), (4096, 1, 16), (nodes, limit, workers))):
+        count = level_count(**size)
+        if worth(count_is, **size) != count:
+            wrong.append("README.md: '%s' are not the %d levels of %s" % (count_is, count, size))
+        for path, formulas in (("include/leafdrum.h", needed.groups()), ("README.md", (of_nodes, of_levels, of_workers))):
+            lengths = [worth(formula, leafdrum_level_count=count, **size) for formula in formulas]
+            # nothing less, nothing more: the opening takes these lengths, and refuses each area with a word less by 2
+            tried = [Table(lengths=[max(n - (k == less), 0) for k, n in enumerate(lengths)], **size).opened for less in (None, 0, 1, 2)]
+            if tried != [0, 2, 2, 2]:
+                wrong.append("%s: %s is not what the library asks for with %s" % (path, ", ".join(formulas), size))
+    # the last size is the worked one, and its last lengths are README.md's
+    worked = ["{:,}".format(n) for n in lengths]
+    worked[1] = "%s = %s" % (of_levels.replace("`leafdrum_level_count`", "{:,}".format(count)), worked[1])
+    if shown != worked:
+        wrong.append("README.md: the worked memory is %s, not %s" % (worked, shown))
+    total = "That is {:,} words, {:,} bytes.".format(sum(lengths), 4 * sum(lengths))
+    return wrong + ([] if total in readme else ["README.md does not say: " + total])
+
+
+bad += memory()
+ranges = re.findall(r"uint32_t (\w+); +/\* (?:chain limit, )?(\d+) to (\d+) \*/", header)
+for field, low, high in ranges:
+    tried = (int(low) - 1, int(low), int(high), int(high) + 1)
+    if [n for n in tried if level_count(**{"workers": 1, "limit": 1, "nodes": 1, field: n})] != [*tried[1:3]]:
+        bad.append("include/leafdrum.h: %s is not in range from %s to %s" % (field, low, high))
+if len(ranges) != 3:
+    bad.append("include/leafdrum.h tells %d ranges, not those of workers, limit and nodes" % len(ranges))
+functions = len(re.findall(r"^\w+ leafdrum_\w+\(", header, re.M))
+if "declares %s functions" % COUNTS[functions] not in readme:
+    bad.append("README.md does not say that the header declares %s functions" % COUNTS[functions])
 
 crates = len([line for line in read("crates.txt").splitlines() if line and not line.startswith("#")])
 edits = len(glob.glob(os.path.join(ROOT, "crates/*/must-fail/*.edit")))
@@ -61,8 +101,32 @@ for test in re.findall(r"tests/(\w+\.\w+)", read("tests/run.sh")):
     if not re.search(r"`(?:tests/)?%s`" % re.escape(test), readme):
         bad.append("README.md does not say what tests/%s does" % test)
 
+
+def run_from(path, reached):
+    """Adds the files of tests/ that this one runs, reads or imports: what it names outside its comments, and what cargo takes by itself."""
+    if path in reached or not os.path.isfile(os.path.join(ROOT, path)):
+        return
+    reached.add(path)
+    text = re.sub(r'""".*?"""|^\s*#.*?$|^\s*//.*?$|/\*.*?\*/', "", read(path), flags=re.M | re.S)
+    found = re.findall(r"tests/[\w./]+", text)
+    found += ["tests/%s.py" % name for name in re.findall(r"^(?:from|import) (\w+)", text, re.M)]
+    found += ["tests/rust/src/%s.rs" % name for name in re.findall(r"^mod (\w+);", text, re.M)]
+    if path == "tests/rust/Cargo.toml":
+        found += ["tests/rust/Cargo.lock", "tests/rust/build.rs", "tests/rust/src/main.rs"]
+    for name in found:
+        run_from(name, reached)
+
+
+reached = set()
+run_from("tests/run.sh", reached)
+for folder, _, files in os.walk(os.path.join(ROOT, "tests")):
+    for path in (os.path.relpath(os.path.join(folder, name), ROOT) for name in files if not folder.endswith("__pycache__")):
+        if path not in reached:
+            bad.append("%s is run by nothing that tests/run.sh runs" % path)
+
 for line in bad:
     print(line)
-if bad or names < 10:
+if bad:
     sys.exit(1)
-print("README and docs: %d links, %d names, the race, the worked memory, %d crates and %d edits hold" % (links, names, crates, edits))
+print("README and docs: %d links, %d names, the race, the memory to lend, %d crates and %d edits hold; %d files of tests/ are run"
+      % (links, names, crates, edits, len(reached)))
