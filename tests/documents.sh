@@ -1,5 +1,6 @@
 #!/bin/sh
 # The trace and the pictures in docs/ are what the library gives now, and each picture stands in a document.
+# Relies on tools/pictures.sh, which draws them over target/staticlib/libexport.a.
 set -eu
 cd "$(dirname "$0")/.."
 out=target/documents

@@ -1,6 +1,7 @@
 /* Every function, field and constant of include/leafdrum.h against the library: with a header that says something else this does not build, or fails when run.
    Relies on the header and the library alone. Builds as C99 and as C++20; tests/headers.py builds it both ways, and with wrong headers. */
 #include "../include/leafdrum.h"
+#include "../include/leafdrum.h" /* once more: without its guard it does not build */
 #include <stdio.h>
 
 /* Another width, sign or number of parameters does not build: a pointer of this type does not take the function. */

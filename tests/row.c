@@ -264,7 +264,7 @@ static void fill(void) {
 /* Workers rest amid their calls while others do many turns: how many differs from table to table. */
 static void run(void) {
     static const uint32_t rests[] = {1, 4, 8, 16, 64};
-    uint32_t rest = rests[draw(5)], i = 0, left = 0, every = 1 + s.nodes / 32, steps = 1 + draw(40 * (s.nodes < 400 ? s.nodes : 400));
+    uint32_t rest = rests[draw(5)], i = 0, left = 0, steps = 1 + draw(40 * (s.nodes < 400 ? s.nodes : 400));
     compare();
     for (operation = 1; operation <= steps && !broken; operation++) {
         uint32_t which = draw(64);
@@ -273,8 +273,8 @@ static void run(void) {
         else if (which <= 2) list();
         else if (calls[i].open) turn(i);
         else start(i, draw(pixels));
-        if (operation % every == 0 && !broken) compare();
-        if (operation % (16 * every) == 0 && !broken) last_answers();
+        if (!broken) compare();
+        if (operation % 16 == 0 && !broken) last_answers();
     }
     ask_again();
     if (s.nodes <= 64) fill();

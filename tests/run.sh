@@ -1,5 +1,6 @@
 #!/bin/sh
 # The test command: the tests outside Rattle, then every crate from nothing. It ends in rt's own line 'N passed, M failed'.
+# Relies on rt, gcc, g++, cargo and python3 on the PATH.
 set -eu
 cd "$(dirname "$0")/.."
 sh tests/readers_guide.sh

@@ -16,6 +16,7 @@ SETS = "        if (*x == 2 * h) {\n            *x = 2 * n + 1;\n            m[2
 FAILED = "        } else w[W_KIND] = k == PUT ? READ : FOLLOW;\n"
 FAILED_AND = "        } else { w[W_KIND] = k == PUT ? READ : FOLLOW; %s }\n"
 SPARE = "        if (w[W_HNODE]) n = w[W_HNODE] - 1;\n"
+NEXT = "        else if (s->nodes_taken < s->nodes) n = s->nodes_taken++;\n"
 SAME = "            if (nodes[2 * n] == w[W_PIXEL]) {\n"
 FOUND = "w[W_KIND] = IDLE, w[W_ANSWER] = 2, w[W_ANODE] = n;\n                *answer = 2, *node = n;"
 
@@ -50,6 +51,7 @@ VERSIONS = [
     # this one has a row: "nodes taken is the number of turns that took a next number" alone excludes it
     ("shortcut 4, nodes taken goes down, the holder forgets the node", ["TAKEN"], [
         (FAILED, FAILED_AND % "if (n + 1 == s->nodes_taken) s->nodes_taken--, w[W_HNODE] = 0;")]),
+    ("a turn takes two numbers", ["TAKEN"], [(NEXT, NEXT.replace("++;", "++, s->nodes_taken += s->nodes_taken < s->nodes;"))]),
     ("Put without comparing", ["LOST"], [(PLACES, PLACES.replace("if (", "if (k == PUT || "))]),
     ("Append without comparing", ["LOST"], [(PLACES, PLACES.replace("if (", "if (k == APPEND || "))]),
     ("Close without comparing", ["LOST"], [
@@ -67,7 +69,7 @@ VERSIONS = [
     ("found by seven digits", ["FOUND_FIRST"], [(SAME, SAME.replace("n] == w[W_PIXEL]", "n] >> 3 == w[W_PIXEL] >> 3"))]),
     ("found with the node before", ["FOUND_NODE"], [(FOUND, FOUND.replace("= n;", "= w[W_NODE];"))]),
     ("found forgets the spare node", ["SPARE"], [(FOUND, FOUND + " w[W_HNODE] = 0;")]),
-    ("full with a node left", ["FULL_EARLY"], [("        else if (s->nodes_taken < s->nodes) n", "        else if (s->nodes_taken + 1 < s->nodes) n")]),
+    ("full with a node left", ["FULL_EARLY"], [(NEXT, NEXT.replace("taken <", "taken + 1 <"))]),
     ("full keeps the answer before", ["LAST"], [("            w[W_KIND] = IDLE, w[W_ANSWER] = 3, w[W_ANODE] = 0;\n", "            w[W_KIND] = IDLE;\n")]),
     ("every call turned away", ["REFUSED"], [("    if (w[W_KIND] != IDLE) return reply(7, 0, 0, s);\n", "    return reply(7, 0, 0, s);\n")]),
     ("an idle worker is answered", ["REFUSAL"], [
@@ -81,10 +83,14 @@ def read(path):
         return f.read()
 
 
-def edited(text, name, edits):
+class Failed(Exception):
+    """A version that can not be judged, and why."""
+
+
+def edited(text, edits):
     for old, new in edits:
         if text.count(old) != 1:
-            sys.exit("shortcuts: %s: by_hand.c has %d times %r" % (name, text.count(old), old))
+            raise Failed("by_hand.c has %d times %r" % (text.count(old), old))
         text = text.replace(old, new)
     return text
 
@@ -94,39 +100,57 @@ def built(text, level):
     source, program = os.path.join(OUT, "table.c"), os.path.join(OUT, "table")
     with open(source, "w", encoding="utf-8") as f:
         f.write(text.replace('"../include/leafdrum.h"', '"%s/include/leafdrum.h"' % ROOT))
-    subprocess.run(["gcc", level, "-Wall", "-Wextra", "-Wno-unused", source, os.path.join(OUT, "row.o"), "-o", program], check=True)
+    if subprocess.run(["gcc", level, "-Wall", "-Wextra", "-Wno-unused", source, os.path.join(OUT, "row.o"), "-o", program]).returncode:
+        raise Failed("not built")
     return program
 
 
 def tried(program, tables):
     """What row printed, and in how many tables each check failed first."""
-    done = subprocess.run([program, SEED, str(tables)], stdout=subprocess.PIPE, timeout=60)
+    try:
+        done = subprocess.run([program, SEED, str(tables)], stdout=subprocess.PIPE, timeout=60)
+    except subprocess.TimeoutExpired:
+        raise Failed("row over it does not end within a minute")
     said = done.stdout.decode()
     found = {name: int(n) for name, n in re.findall(r"^row: ([a-z0-9 ]+): in (\d+) of", said, re.M)}
     if done.returncode != (1 if found else 0):
-        sys.exit("shortcuts: row ended with status %d" % done.returncode)
+        raise Failed("row over it ends with status %d" % done.returncode)
     return said, found
 
 
-checks = dict(re.findall(r'^    \[([A-Z_]+)\] = "([^"]+)",$', read("tests/row.c"), re.M))
-by_hand = read("bench/by_hand.c")
-os.makedirs(OUT, exist_ok=True)
-subprocess.run(["gcc", "-std=c99", "-O2", "-Wall", "-Wextra", "-Werror", "-DTABLE=by_hand", "-c", os.path.join(ROOT, "tests/row.c"), "-o", os.path.join(OUT, "row.o")], check=True)
-said, found = tried(built(by_hand, "-O2"), 2000)
-print("by_hand.c: " + said.strip())
-bad = ["by_hand.c as it is does not pass"] if found else []
-for name, by, edits in VERSIONS:
-    program = built(edited(by_hand, name, edits), "-O0")
+def missed(name, by, text):
+    """The checks named with a version that do not find it; prints what finds it."""
+    program = built(text, "-O0")
     for tables in (100, 1000):
         _, found = tried(program, tables)
-        missing = [checks[c] for c in by if checks[c] not in found]
+        missing = [c for c in by if checks[c] not in found]
         if not missing:
             break
     print("%s: %s, of %d tables" % (name, ", ".join("%s %d" % f for f in sorted(found.items(), key=lambda f: -f[1])) or "not found", tables))
-    bad += ["%s: not found by '%s'" % (name, check) for check in missing]
-bad += ["no version is found by '%s'" % text for c, text in checks.items() if not any(c in by for _, by, _ in VERSIONS)]
+    return missing
+
+
+row, by_hand = read("tests/row.c"), read("bench/by_hand.c")
+checks = dict(re.findall(r'^    \[([A-Z_]+)\] = "([^"]+)",$', row, re.M))
+listed = re.findall(r"[A-Z_]+(?=,)", re.search(r"enum check \{.*?\}|$", row, re.S).group())
+if not checks or set(checks) != set(listed):
+    sys.exit("shortcuts: of row.c's %d checks these are not listed, or have no name: %s" % (len(listed), " ".join(sorted(set(checks) ^ set(listed)))))
+os.makedirs(OUT, exist_ok=True)
+subprocess.run(["gcc", "-std=c99", "-O2", "-Wall", "-Wextra", "-Werror", "-DTABLE=by_hand", "-c", os.path.join(ROOT, "tests/row.c"),
+                "-o", os.path.join(OUT, "row.o")], check=True)
+bad = ["no version is found by '%s'" % text for c, text in checks.items() if not any(c in by for _, by, _ in VERSIONS)]
+for name, by, edits in [("by_hand.c", [], [])] + VERSIONS:
+    try:
+        if edits:
+            bad += ["%s: not found by '%s'" % (name, checks[c]) for c in missed(name, by, edited(by_hand, edits))]
+        else:
+            said, found = tried(built(by_hand, "-O2"), 2000)
+            print("by_hand.c: " + said.strip())
+            bad += ["by_hand.c as it is does not pass"] if found else []
+    except Failed as why:
+        bad.append("%s: %s" % (name, why))
 for line in bad:
     print("shortcuts: " + line)
-if bad or len(checks) < 19:
+if bad:
     sys.exit(1)
 print("shortcuts: by_hand.c passes, %d wrong versions are found, each of %d checks finds one" % (len(VERSIONS), len(checks)))
