@@ -107,12 +107,13 @@ def run_from(path, reached):
     if path in reached or not os.path.isfile(os.path.join(ROOT, path)):
         return
     reached.add(path)
-    text = re.sub(r'""".*?"""|^\s*#.*?$|^\s*//.*?$|/\*.*?\*/', "", read(path), flags=re.M | re.S)
+    comments = r"/\*.*?\*/" if path.endswith((".c", ".h")) else r"^\s*//.*?$" if path.endswith(".rs") else r'""".*?"""|^\s*#.*?$'
+    text = re.sub(comments, "", read(path), flags=re.M | re.S)
     found = re.findall(r"tests/[\w./]+", text)
     found += ["tests/%s.py" % name for name in re.findall(r"^(?:from|import) (\w+)", text, re.M)]
-    found += ["tests/rust/src/%s.rs" % name for name in re.findall(r"^mod (\w+);", text, re.M)]
-    if path == "tests/rust/Cargo.toml":
-        found += ["tests/rust/Cargo.lock", "tests/rust/build.rs", "tests/rust/src/main.rs"]
+    found += [os.path.join(os.path.dirname(path), name + ".rs") for name in re.findall(r"^mod (\w+);", text, re.M)]
+    if path.endswith("/Cargo.toml"):
+        found += [os.path.join(os.path.dirname(path), name) for name in ("Cargo.lock", "build.rs", "src/main.rs")]
     for name in found:
         run_from(name, reached)
 

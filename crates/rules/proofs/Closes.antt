@@ -112,6 +112,12 @@ module _ (w : ℕ) (s : Settings) (i : ℕ) (a : Areas) where
           let q : workerWords w * i + (k - workerWords w * i) ≡ k = omega arith in
           rw q at (in-head y (k - workerWords w * i) (omega arith) (λ z. n₀ (omega arith)) (λ z. n₇ (omega arith)) (λ z. n₈ (omega arith)))
 
+  no-node : workerWords w * i + 10 ≤ length (a .workers) → getD words (workerWords w * i + 8) 0 ≡ 0
+  unfolding words workerPlace fullRecord ended headList
+  no-node t =
+      sym (getD-cells words (workerPlace w i) 10 8 (omega arith))
+      ∙ ap (λ (v : List ℕ). getD v 8 0) (store-head w (fullRecord (recordOf w a i .head)) i (a .workers) t)
+
   head-is : workerWords w * i + 10 ≤ length (a .workers) → headAt w words i ≡ fullRecord (recordOf w a i .head) .head
   unfolding words workerPlace
   head-is t = head-stored w (fullRecord (recordOf w a i .head)) i (a .workers) t
@@ -138,6 +144,7 @@ module _ (w : ℕ) (s : Settings) (i : ℕ) (a : Areas) where
         words-stay = words-stay y;
         idle = idle-of _ (head-is q);
         told = told-of _ (head-is q);
+        no-node = no-node q;
       }
 
 pub full-closes : (w : ℕ) → FullCloses w

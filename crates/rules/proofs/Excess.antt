@@ -88,7 +88,7 @@ module _ (w : ℕ) (s : Settings) where
   loaded l i e b = fit-few w (load w l i .moves) (first-sized w l i (movesAt w l i)) (few-moves w s _ (load w l i) b e)
 
   -- a turn whose questions are all answered yes
-  act-leaves : (i : ℕ) (a : Areas) → TurnAsked w s i a 0 → Leaves w s (memoryOf a) (act w s (recordOf w a i) (memoryOf a))
+  pub act-leaves : (i : ℕ) (a : Areas) → TurnAsked w s i a 0 → Leaves w s (memoryOf a) (act w s (recordOf w a i) (memoryOf a))
   unfolding act question6 question9
   act-leaves i a y =
       let r : Record = recordOf w a i in

@@ -2,11 +2,12 @@
 -- Relies on record for the words of a record and for what fits.
 use Prim.Native.Nat.{ℕ, _+_, _*_, _≤_, _<_}
 use mathlib.Core.Path.{_≡_, refl, sym, _∙_}
+use mathlib.Core.Logic.{_⊎_, inl, inr}
 use mathlib.Core.Bool.{true, false}
 use mathlib.Core.List.{List, [], _∷_}
 use native.Mathlib.Omega.{arith}
 use lib.Dec.{eqb, leb}
-use lib.ListN.{length, length-set}
+use lib.ListN.{getD, length, length-set}
 use borrow.Author.Tests.{leb-true, eqb-true}
 use Rattle.words.proofs.Choice.{pick-both, pick-false, both-right, true-false}
 use Rattle.settings.specs.Sizes.{headWords, moveWords, maxMoves, workerWords}
@@ -14,7 +15,7 @@ use Rattle.settings.specs.declared.Settings.{Settings}
 use Rattle.record.specs.declared.Move.{Move}
 use Rattle.record.specs.Layout.{Record, newMove, workerPlace, storeHead, store}
 use Rattle.record.specs.Fits.{movingFits, fitsBy}
-use Rattle.record.proofs.Apart.{after, place-next, room}
+use Rattle.record.proofs.Apart.{before, after, place-next, room}
 use Rattle.record.proofs.Pieces.{AllSized, new-sized, moves-outside, head-outside}
 use Rattle.record.proofs.Records.{length-store}
 use Rattle.rules.specs.Heads.{remember, forget}
@@ -26,18 +27,21 @@ pub record FitWords (w : ℕ) (ms : List Move) : Type 0 where
   pub sized : AllSized ms
   pub room : headWords + moveWords * length ms ≤ workerWords w
 
+-- what lies outside of the worker's words stays
+pub store-others : (w : ℕ) (r : Record) (i : ℕ) (l : List ℕ) → FitWords w (r .moves) → (k : ℕ) → (k < workerWords w * i) ⊎ (workerWords w * i + workerWords w ≤ k) → getD (store w r i l) k 0 ≡ getD l k 0
+unfolding store workerPlace
+store-others w r i l f k (inl h) =
+    moves-outside w i (r .moves) (storeHead w (r .head) (length (r .moves)) i l) k (f .sized) (before (omega arith))
+    ∙ head-outside w (r .head) (length (r .moves)) i l k (before h)
+store-others w r i l f k (inr h) =
+    let c : headWords + moveWords * length (r .moves) ≤ workerWords w = f .room in
+    moves-outside w i (r .moves) (storeHead w (r .head) (length (r .moves)) i l) k (f .sized) (after (omega arith))
+    ∙ head-outside w (r .head) (length (r .moves)) i l k (after (omega arith))
+
 -- the record of one of the first n workers
 pub same-store : (w : ℕ) {n : ℕ} (r : Record) (i : ℕ) (l : List ℕ) → FitWords w (r .moves) → i < n → SameFrom (workerWords w * n) l (store w r i l)
-unfolding store workerPlace
 same-store w {n} r i l f h =
-    let t = place-next w h in
-    let c : headWords + moveWords * length (r .moves) ≤ workerWords w = f .room in
-    record {
-      size = length-store w r i l;
-      words = λ k g.
-          moves-outside w i (r .moves) (storeHead w (r .head) (length (r .moves)) i l) k (f .sized) (after (omega arith))
-          ∙ head-outside w (r .head) (length (r .moves)) i l k (after (omega arith));
-    }
+    let t = place-next w h in record { size = length-store w r i l; words = λ k g. store-others w r i l f k (inr (omega arith)) }
 
 -- no Move
 pub fit-none : (w : ℕ) → FitWords w []

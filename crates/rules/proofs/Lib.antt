@@ -76,6 +76,7 @@ pub mod ExcessWords
 pub mod ExcessRecords
 pub mod ExcessActs
 pub mod Excess
+pub mod OwnRecord
 pub mod Access
 pub mod Closes
 pub mod Openings

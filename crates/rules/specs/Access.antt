@@ -29,6 +29,6 @@ pub data Access (w : ℕ) (s : Settings) (h : Head) (m : Memory) (s′ : Setting
   spare-level : (g previous depth : ℕ) → h .«held_level» ≡ suc g → s′ ≡ s → m′ ≡ memory (m .nodes) (fillLevel w (m .levels) g previous depth) → Access w s h m s′ m′
 
 -- excludes: a machine that runs a whole call that places a pixel in one turn; one that writes the entry in H in the turn that sets the last node;
--- one whose turn fills a node that another worker gave back, or writes a previous word of a level that it does not take
+-- one whose turn fills a node or level that is neither the next nor held in its record, or writes a previous word of a level that it does not take
 abbrev pub OneAccess : ℕ → Type 0
 OneAccess w = (s : Settings) (i : ℕ) (a : Areas) → Access w s (recordOf w a i .head) (memoryOf a) (turn w s i a .reply .settings) (memoryOf (turn w s i a .areas))

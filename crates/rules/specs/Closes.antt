@@ -25,6 +25,8 @@ pub record Closes (w : ℕ) (s : Settings) (i : ℕ) (a : Areas) (r : Result) : 
   -- excludes: a "full" that leaves the call open
   pub idle : question7 (recordOf w (r .areas) i) ≡ true
   pub told : lastOf (recordOf w (r .areas) i .head) ≡ Full
+  -- "full" has no node: the answer's node is 0
+  pub no-node : getD (r .areas .workers) (workerWords w * i + 8) 0 ≡ 0
 
 -- every turn that is given 9
 abbrev pub FullCloses : ℕ → Type 0

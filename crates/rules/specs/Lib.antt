@@ -1,4 +1,4 @@
--- The definitions of document 01, in its order, and what is said of them: its demands 1 and 3, its sentences besides, and of a call alone.
+-- The definitions of document 01, in its order, and what is said of them: its demands 1 and 3, its sentences besides, and what a call alone does.
 -- Relies on words, settings, areas and record.
 pub mod Opening
 pub mod Heads
@@ -14,6 +14,7 @@ pub mod Calls
 pub mod Refusals
 pub mod Excess
 pub mod Access
+pub mod OwnRecord
 pub mod Closes
 pub mod Openings
 pub mod ListEnds

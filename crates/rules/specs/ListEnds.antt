@@ -41,7 +41,7 @@ pub record ListEnds (w : ℕ) (s : Settings) (l : List ℕ) (limit : ℕ) (a : A
   -- excludes: idle entries counted as turns done
   pub within : turns w s l limit a .reply .turns ≤ limit
   -- "It ends at the list's end, once as many turns are done as the limit, or at a 6, which it gives too"
-  -- excludes: idle entries that use up the limit; a list that stops at a "full"
+  -- excludes: idle entries that use up the limit; a list that stops at a "full" (that 6 is given only where an entry meets it is `RefusesList`)
   pub ends : (rest ≡ []) ⊎ ((turns w s l limit a .reply .turns ≡ limit) ⊎ (turns w s l limit a .reply .number ≡ 6))
   -- "once as many turns are done as the limit": no entry is reached after that
   -- excludes: a list that looks at idle entries behind its limit, and meets a 6 there

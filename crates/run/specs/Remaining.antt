@@ -72,7 +72,7 @@ unfoldable pub counted : Progress → ℕ → Bool
 counted p n = both (leb n 65536) (both (leb (p .at) n) (leb (p .line) (p .at + 1)))
 
 -- what is asked of a progress, by its stage: an input that is too long has no lines to read, one that is not is not refused for it. Every place of a run passes; so
--- do some that no run has, since neither the settings are asked nor whether a line begins there.
+-- do some that no run has, since neither the settings are asked, nor whether a line begins there, nor how many lines stand before it.
 unfoldable pub canStandAt : Stage → Progress → List ℕ → Bool
 canStandAt Begin p input = true
 canStandAt TooLong p input = ltb 65536 (length input)

@@ -351,7 +351,7 @@ fn counted(p: Progress, n: usize) -> bool
     false
 }
 
-// Whether the input allows this progress: every place of a run over it does.
+// Whether the input allows this progress: each that a run over it has is allowed.
 fn can_stand(p: Progress, input: &[u8]) -> bool
     ensures { λ r. ⌜ r ≡ canStand p (now (input .entry)) ⌝ }
 {
