@@ -485,7 +485,7 @@ def wrong_pages(text):
     # neighbours: kinds and answers behind their numbers, words of the picture
     name = r"([A-Z]\w+|none|new|found|full)"
     picture = re.search(r"```.*?```", text, re.S)
-    for pattern, until in ((r"(?<=\d )%s(,\s\d+ )%s\b" % (name, name), len(text)), (r"\b([A-Za-z]\w*)([^A-Za-z]+)([A-Za-z]\w*)", picture.end())):
+    for pattern, until in ((r"(?<=\d )%s((?:,| \(\w+\);)\s\d+ )%s\b" % (name, name), len(text)), (r"\b([A-Za-z]\w*)([^A-Za-z]+)([A-Za-z]\w*)", picture.end())):
         at = 0
         while m := re.compile(pattern).search(text, at, until):
             at = m.end(1)
