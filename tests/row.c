@@ -239,6 +239,7 @@ static void alone(uint32_t i) {
     for (uint32_t k = 0; calls[i].open && !broken; k++, operation++) {
         must(k < 5000, ENDLESS);
         turn(i);
+        if (!broken) compare();
     }
 }
 
@@ -278,7 +279,6 @@ static void run(void) {
     }
     ask_again();
     if (s.nodes <= 64) fill();
-    if (!broken) compare();
 }
 
 int main(int count, char **word) {
