@@ -100,6 +100,13 @@ static inline int taken(const S *s, uint32_t r) { return r & 1 ? r >> 1 < s->nod
 /* the word of pixel p's entry in level g */
 static inline uint32_t *entry(uint32_t *levels, uint32_t g, uint32_t p) { return levels + 10 * g + 2 + (p >> 3 * (7 - levels[10 * g + 1]) & 7); }
 
+/* "exchange x from a to b": gives the word that x held, which is a where it was done */
+static inline uint32_t exchange(uint32_t *x, uint32_t a, uint32_t b) {
+    uint32_t word = *x;
+    if (word == a) *x = b;
+    return word;
+}
+
 static int back(const S *s, const uint32_t *levels, uint32_t t, uint32_t g, uint32_t *child) {
     for (int n = 0; n < 7; n++) {
         uint32_t p = levels[10 * t];
@@ -154,11 +161,10 @@ static uint32_t act(S *s, uint32_t *w, uint32_t *nodes, uint32_t *levels, uint32
         x = nodes + 2 * w[W_NODE] + 1;
     place:
         n = w[W_HNODE] - 1;
-        if (*x == 2 * h) {
-            *x = 2 * n + 1;
-            w[W_KIND] = IDLE, w[W_ANSWER] = 1, w[W_ANODE] = n, w[W_HNODE] = 0;
-            *answer = 1, *node = n;
-        } else w[W_KIND] = k == PUT ? READ : FOLLOW;
+        word = exchange(x, 2 * h, 2 * n + 1);
+        if (word != 2 * h) goto met;
+        w[W_KIND] = IDLE, w[W_ANSWER] = 1, w[W_ANODE] = n, w[W_HNODE] = 0;
+        *answer = 1, *node = n;
         return 0;
     case READ:
         NEED(h < s->levels_taken && levels[10 * h + 1] <= 7);
@@ -167,7 +173,7 @@ static uint32_t act(S *s, uint32_t *w, uint32_t *nodes, uint32_t *levels, uint32
     case FOLLOW:
         NEED(h < s->levels_taken && w[W_NODE] < s->nodes_taken);
         word = nodes[2 * w[W_NODE] + 1];
-    met:
+    met: /* the word read, or met by a failed exchange: what is in hand stays held, and is spare from here on */
         NEED(taken(s, word));
         if (word & 1) {
             n = word >> 1;
@@ -177,11 +183,11 @@ static uint32_t act(S *s, uint32_t *w, uint32_t *nodes, uint32_t *levels, uint32
                 *answer = 2, *node = n;
             } else {
                 w[W_NODE] = n, w[W_KIND] = TAIL;
-                w[W_COUNT] = k == READ ? 1 : w[W_COUNT] > s->limit ? s->limit + 1 : w[W_COUNT] + 1;
+                w[W_COUNT] = k == READ || k == PUT ? 1 : w[W_COUNT] > s->limit ? s->limit + 1 : w[W_COUNT] + 1;
             }
         } else {
             g = word >> 1;
-            if (k == FOLLOW) NEED(back(s, levels, g, h, &g));
+            if (k != READ && k != PUT) NEED(back(s, levels, g, h, &g));
             w[W_LEVEL] = g, w[W_KIND] = LOOK;
         }
         return 0;
@@ -212,15 +218,18 @@ static uint32_t act(S *s, uint32_t *w, uint32_t *nodes, uint32_t *levels, uint32
     case SETCLOSE:
         NEED(h < s->levels_taken && w[W_NODE] < s->nodes_taken && w[W_HLEVEL] - 1 < s->levels_taken);
         x = nodes + 2 * w[W_NODE] + 1;
-        if (*x == 2 * h) {
-            NEED(w[W_MOVES] < 7);
-            *x = 2 * (w[W_HLEVEL] - 1);
-            w[W_MOVES]++;
-            m = mv(w);
-            m[0] = h, m[1] = w[W_HLEVEL] - 1;
-            memset(m + 2, 0, 9 * sizeof *m);
-            w[W_HLEVEL] = 0, w[W_KIND] = CHAINHEAD;
-        } else w[W_KIND] = k == CLOSE ? FOLLOW : SETFOLLOW;
+        /* without room for a Move it is only read: it may fail, but not be done */
+        word = w[W_MOVES] < 7 ? exchange(x, 2 * h, 2 * (w[W_HLEVEL] - 1)) : *x;
+        if (word != 2 * h) {
+            if (k == CLOSE) goto met;
+            goto set_met;
+        }
+        NEED(w[W_MOVES] < 7);
+        w[W_MOVES]++;
+        m = mv(w);
+        m[0] = h, m[1] = w[W_HLEVEL] - 1;
+        memset(m + 2, 0, 9 * sizeof *m);
+        w[W_HLEVEL] = 0, w[W_KIND] = CHAINHEAD;
         return 0;
     case CHAINHEAD:
     case MOVEEND:
@@ -269,10 +278,10 @@ static uint32_t act(S *s, uint32_t *w, uint32_t *nodes, uint32_t *levels, uint32
         NEED(n < s->nodes_taken && h < s->levels_taken && levels[10 * h + 1] <= 7 && nodes[2 * n] <= MAXPIX);
         x = entry(levels, h, nodes[2 * n]);
         if (k == SETPUT) goto set;
-        NEED(taken(s, *x));
-        if (k == SETLOOK) w[W_KIND] = *x == 2 * h ? SETPUT : SETREAD;
-        else if (*x & 1) w[W_KIND] = SETTAIL, w[W_NODE] = *x >> 1, w[W_COUNT] = 1;
-        else w[W_KIND] = SETNEXT, w[W_LEVEL] = *x >> 1;
+        word = *x;
+        if (k == SETREAD) goto set_met;
+        NEED(taken(s, word));
+        w[W_KIND] = word == 2 * h ? SETPUT : SETREAD;
         return 0;
     case SETAPPEND:
         m = mv(w);
@@ -280,21 +289,22 @@ static uint32_t act(S *s, uint32_t *w, uint32_t *nodes, uint32_t *levels, uint32
         NEED(n < s->nodes_taken && h < s->levels_taken && w[W_NODE] < s->nodes_taken);
         x = nodes + 2 * w[W_NODE] + 1;
     set:
-        if (*x == 2 * h) {
-            *x = 2 * n + 1;
-            m[2]--;
-            set_last(w, m);
-        } else w[W_KIND] = k == SETPUT ? SETREAD : SETFOLLOW;
+        word = exchange(x, 2 * h, 2 * n + 1);
+        if (word != 2 * h) goto set_met;
+        m[2]--;
+        set_last(w, m);
         return 0;
     case SETFOLLOW:
         NEED(h < s->levels_taken && w[W_NODE] < s->nodes_taken);
         word = nodes[2 * w[W_NODE] + 1];
+    set_met:
         NEED(taken(s, word));
         if (word & 1) {
             w[W_KIND] = SETTAIL, w[W_NODE] = word >> 1;
-            w[W_COUNT] = w[W_COUNT] > s->limit ? s->limit + 1 : w[W_COUNT] + 1;
+            w[W_COUNT] = k == SETREAD || k == SETPUT ? 1 : w[W_COUNT] > s->limit ? s->limit + 1 : w[W_COUNT] + 1;
         } else {
-            NEED(back(s, levels, word >> 1, h, &g));
+            g = word >> 1;
+            if (k != SETREAD && k != SETPUT) NEED(back(s, levels, g, h, &g));
             w[W_LEVEL] = g, w[W_KIND] = SETNEXT;
         }
         return 0;

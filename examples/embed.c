@@ -10,10 +10,10 @@ int main(void) {
     leafdrum_settings s = {WORKERS, LIMIT, NODES, 0, 0};
     leafdrum_reply r = leafdrum_open(s, AREAS);
     if (r.number != 0) return printf("opening refused by %u\n", r.number), 1;
-    /* two workers report the pixel at row 0, column 0; their turns interleave */
+    /* two workers report the pixel at row 0, column 0; their turns interleave: worker 1 comes second, meets worker 0's node and finds it */
     r = leafdrum_start(r.settings, 0, 0, 0, AREAS);
     r = leafdrum_start(r.settings, 1, 0, 0, AREAS);
-    static const uint8_t order[] = {0, 1, 0, 1, 0, 1, 1};
+    static const uint8_t order[] = {0, 1, 0, 1, 0, 1};
     for (size_t k = 0; k < sizeof order; k++) {
         r = leafdrum_turn(r.settings, order[k], AREAS);
         if (r.answer == LEAFDRUM_NEW) printf("worker %u: new, node %u\n", order[k], r.node);

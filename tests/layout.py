@@ -218,7 +218,7 @@ def chains(layout):
     t.shows(1, kind="Put", held_node=4)
     t.turns(0, "Put")
     t.ends(0, "new", 3)
-    t.turns(1, "Put Read")
+    t.turns(1, "Put")
     t.ends(1, "found", 3)
     t.shows(1, held_node=4)
     t.call(1, 0o60000000, "Look Take Put", "new", 4)

@@ -20,6 +20,7 @@ python3 tests/states.py
 sh tests/documents.sh
 gcc -std=c99 -O2 -Wall -Wextra -Werror tests/row.c target/staticlib/libexport.a -o "$out/row"
 "$out/row"
+python3 tests/reads.py
 python3 tests/shortcuts.py
 sh tests/compare.sh
 exec rt ci

@@ -11,14 +11,33 @@ OUT = os.path.join(ROOT, "target/tests/shortcuts")
 SEED = sys.argv[1] if len(sys.argv) > 1 else "1"
 
 # texts of by_hand.c that several versions change
-PLACES = "        if (*x == 2 * h) {\n            *x = 2 * n + 1;\n            w[W_KIND] = IDLE"
-SETS = "        if (*x == 2 * h) {\n            *x = 2 * n + 1;\n            m[2]--;"
-FAILED = "        } else w[W_KIND] = k == PUT ? READ : FOLLOW;\n"
-FAILED_AND = "        } else { w[W_KIND] = k == PUT ? READ : FOLLOW; %s }\n"
+PLACES = "        word = exchange(x, 2 * h, 2 * n + 1);\n        if (word != 2 * h) goto met;\n"
+SETS = PLACES.replace("goto met", "goto set_met")
+CLOSES = "exchange(x, 2 * h, 2 * (w[W_HLEVEL] - 1)) : *x;\n        if (word != 2 * h) {\n"
+BACK = "            if (k != READ && k != PUT) NEED(back(s, levels, g, h, &g));\n"
+SET_BACK = BACK.replace("READ", "SETREAD").replace("PUT", "SETPUT")
+COUNT = "                w[W_COUNT] = k == READ || k == PUT ? 1"
+SET_COUNT = "            w[W_COUNT] = k == SETREAD || k == SETPUT ? 1"
 SPARE = "        if (w[W_HNODE]) n = w[W_HNODE] - 1;\n"
 NEXT = "        else if (s->nodes_taken < s->nodes) n = s->nodes_taken++;\n"
 SAME = "            if (nodes[2 * n] == w[W_PIXEL]) {\n"
 FOUND = "w[W_KIND] = IDLE, w[W_ANSWER] = 2, w[W_ANODE] = n;\n                *answer = 2, *node = n;"
+
+
+def failing(kind, what):
+    """A search's exchange of this kind that fails does this first."""
+    return PLACES, PLACES.replace("goto met;", "{ if (k == %s) { %s } goto met; }" % (kind, what))
+
+
+def uncompared(text, kind):
+    """The exchange of this kind is done whatever it meets."""
+    return text, text.replace("exchange(x, 2 * h", "exchange(x, k == %s ? *x : 2 * h" % kind).replace("if (word", "if (k != %s && word" % kind)
+
+
+def without(text, kind):
+    """What is done of every kind but some is not done of this kind either."""
+    return text, text.replace("if (", "if (k != %s && " % kind)
+
 
 # A version: its name, the checks of row.c that must find it, and its edits, each a text and what takes its place.
 VERSIONS = [
@@ -28,11 +47,12 @@ VERSIONS = [
          "            for (uint32_t a = 0, b = m[2]; a + 1 < b; a++) b--, word = m[3 + a], m[3 + a] = m[3 + b], m[3 + b] = word;\n"
          "            set_last(w, m);\n"
          "        }\n")]),
-    ("shortcut 2 in Follow, on at the level met", ["NEW_PIXEL", "FULL_PLACED", "SIX"], [
-        ("            if (k == FOLLOW) NEED(back(s, levels, g, h, &g));\n", "")]),
+    ("shortcut 2 in Follow, on at the level met", ["NEW_PIXEL", "FULL_PLACED", "SIX"], [without(BACK, "FOLLOW")]),
+    ("shortcut 2 after a failed Append", ["NEW_PIXEL"], [without(BACK, "APPEND")]),
+    ("shortcut 2 after a failed Close", ["NEW_PIXEL"], [without(BACK, "CLOSE")]),
     # a node set too deep is reached, and missed by the next search for its pixel
-    ("shortcut 2 in SetFollow, on at the level met", ["NEW_PIXEL"], [
-        ("            NEED(back(s, levels, word >> 1, h, &g));\n", "            g = word >> 1;\n")]),
+    ("shortcut 2 in SetFollow, on at the level met", ["NEW_PIXEL"], [without(SET_BACK, "SETFOLLOW")]),
+    ("shortcut 2 after a failed SetAppend or SetClose", ["NEW_PIXEL"], [without(SET_BACK, "SETAPPEND && k != SETCLOSE")]),
     ("shortcut 3, the entry in H is written a turn before the last node is set", ["LOST"], [
         ("        nodes[2 * n + 1] = 2 * h;\n        w[W_KIND] = SETLOOK;\n",
          "        nodes[2 * n + 1] = 2 * h;\n"
@@ -46,25 +66,33 @@ VERSIONS = [
         ("typedef leafdrum_settings S;\n", "typedef leafdrum_settings S;\nstatic uint32_t handed;\n"),
         ("    s.nodes_taken = 0;\n", "    s.nodes_taken = handed = 0;\n"),
         (SPARE, SPARE + "        else if (handed) n = handed - 1, handed = 0;\n"),
-        (FAILED, FAILED_AND % "handed = n + 1;")]),
-    ("shortcut 4, nodes taken goes down, the holder remembers the node", ["TAKEN"], [(FAILED, FAILED_AND % "s->nodes_taken--;")]),
+        (PLACES, PLACES.replace("goto met;", "{ handed = n + 1; goto met; }"))]),
+    ("shortcut 4, nodes taken goes down, the holder remembers the node", ["TAKEN"], [failing("PUT", "s->nodes_taken--;")]),
     # this one has a row: "nodes taken is the number of turns that took a next number" alone excludes it
     ("shortcut 4, nodes taken goes down, the holder forgets the node", ["TAKEN"], [
-        (FAILED, FAILED_AND % "if (n + 1 == s->nodes_taken) s->nodes_taken--, w[W_HNODE] = 0;")]),
+        failing("PUT", "if (n + 1 == s->nodes_taken) s->nodes_taken--, w[W_HNODE] = 0;")]),
     ("a turn takes two numbers", ["TAKEN"], [(NEXT, NEXT.replace("++;", "++, s->nodes_taken += s->nodes_taken < s->nodes;"))]),
-    ("Put without comparing", ["LOST"], [(PLACES, PLACES.replace("if (", "if (k == PUT || "))]),
-    ("Append without comparing", ["LOST"], [(PLACES, PLACES.replace("if (", "if (k == APPEND || "))]),
-    ("Close without comparing", ["LOST"], [
-        ("        if (*x == 2 * h) {\n            NEED(w[W_MOVES] < 7);\n", "        if (k == CLOSE || *x == 2 * h) {\n            NEED(w[W_MOVES] < 7);\n")]),
-    ("SetPut without comparing", ["LOST"], [(SETS, SETS.replace("if (", "if (k == SETPUT || "))]),
-    ("SetAppend without comparing", ["LOST"], [(SETS, SETS.replace("if (", "if (k == SETAPPEND || "))]),
-    ("a closed chain refers to the level behind the new one", ["UNTAKEN"], [("            *x = 2 * (w[W_HLEVEL] - 1);\n", "            *x = 2 * w[W_HLEVEL];\n")]),
-    ("a failed Close forgets its level", ["LEVELS_HELD"], [
-        ("        } else w[W_KIND] = k == CLOSE ? FOLLOW : SETFOLLOW;\n", "        } else w[W_KIND] = k == CLOSE ? FOLLOW : SETFOLLOW, w[W_HLEVEL] = 0;\n")]),
-    ("Follow passes over its pixel", ["NEW_PIXEL", "FULL_PLACED"], [(SAME, SAME.replace("(nodes", "(k == READ && nodes"))]),
+    ("Put without comparing", ["LOST"], [uncompared(PLACES, "PUT")]),
+    ("Append without comparing", ["LOST"], [uncompared(PLACES, "APPEND")]),
+    ("Close without comparing", ["LOST"], [uncompared(CLOSES, "CLOSE")]),
+    ("SetPut without comparing", ["LOST"], [uncompared(SETS, "SETPUT")]),
+    ("SetAppend without comparing", ["LOST"], [uncompared(SETS, "SETAPPEND")]),
+    ("SetClose without comparing", ["LOST"], [uncompared(CLOSES, "SETCLOSE")]),
+    ("a closed chain refers to the level behind the new one", ["UNTAKEN"], [(CLOSES, CLOSES.replace("(w[W_HLEVEL] - 1)", "w[W_HLEVEL]"))]),
+    ("a failed Put forgets its node", ["SPARE"], [failing("PUT", "w[W_HNODE] = 0;")]),
+    ("a failed Append forgets its node", ["SPARE"], [failing("APPEND", "w[W_HNODE] = 0;")]),
+    ("a failed Close forgets its level", ["LEVELS_HELD"], [(CLOSES, CLOSES + "            if (k == CLOSE) w[W_HLEVEL] = 0;\n")]),
+    ("a failed SetClose forgets its level", ["LEVELS_HELD"], [(CLOSES, CLOSES + "            if (k == SETCLOSE) w[W_HLEVEL] = 0;\n")]),
+    ("a failed Put passes over its pixel", ["NEW_PIXEL"], [(SAME, SAME.replace("(nodes", "(k != PUT && nodes"))]),
+    ("a failed Append passes over its pixel", ["NEW_PIXEL"], [(SAME, SAME.replace("(nodes", "(k != APPEND && nodes"))]),
+    ("a failed Append counts as Read does", ["SIX"], [(COUNT, COUNT.replace("k == PUT", "k == PUT || k == APPEND"))]),
+    ("a failed SetAppend counts as SetRead does", ["SIX"], [(SET_COUNT, SET_COUNT.replace("k == SETPUT", "k == SETPUT || k == SETAPPEND"))]),
+    ("a failed SetPut counts its node as set", ["LOST"], [(SETS, SETS.replace("if (", "if (k != SETPUT && "))]),
+    ("a failed SetAppend counts its node as set", ["LOST"], [(SETS, SETS.replace("if (", "if (k != SETAPPEND && "))]),
+    ("Follow passes over its pixel", ["NEW_PIXEL", "FULL_PLACED"], [(SAME, SAME.replace("(nodes", "(k != FOLLOW && nodes"))]),
     ("Read goes on at its own level", ["ENDLESS"], [("            w[W_LEVEL] = g, w[W_KIND] = LOOK;\n", "            w[W_LEVEL] = k == READ ? h : g, w[W_KIND] = LOOK;\n")]),
     ("placed a turn before new", ["NOT_PLACED"], [
-        (PLACES, PLACES.replace("if (", "if (*x == 2 * n + 1 || ").replace("            *x = 2 * n + 1;\n", "            if (*x == 2 * h) return *x = 2 * n + 1, 0;\n"))]),
+        (PLACES, PLACES.replace("if (word != 2 * h)", "if (word == 2 * h) return 0;\n        if (word != 2 * n + 1)"))]),
     ("new 0 always", ["NEW_NODE"], [("*answer = 1, *node = n;", "*answer = 1, *node = 0;")]),
     ("found by seven digits", ["FOUND_FIRST"], [(SAME, SAME.replace("n] == w[W_PIXEL]", "n] >> 3 == w[W_PIXEL] >> 3"))]),
     ("found with the node before", ["FOUND_NODE"], [(FOUND, FOUND.replace("= n;", "= w[W_NODE];"))]),
@@ -121,7 +149,7 @@ def tried(program, tables):
 def missed(name, by, text):
     """The checks named with a version that do not find it; prints what finds it."""
     program = built(text, "-O0")
-    for tables in (100, 1000):
+    for tables in (100, 1000, 10000):
         _, found = tried(program, tables)
         missing = [c for c in by if checks[c] not in found]
         if not missing:

@@ -1,20 +1,32 @@
 #!/usr/bin/env python3
-"""Writes docs/TRACE.md: a chain move turn by turn with the words that change. python3 tools/trace.py > docs/TRACE.md"""
+"""Writes docs/TRACE.md: the race and a chain move turn by turn, with the words that change. python3 tools/trace.py > docs/TRACE.md"""
 import os
 import sys
 from states import KINDS, ROOT, WORDS, ref, states
 
-TEXT = "examples/move.txt"
-HEAD = """# A chain move, turn by turn
+HEAD = """# Turn by turn
 
-Written by `python3 tools/trace.py` from the library's own words; the tests compare it with a new run. The text is `{name}`: chain limit 2,
-(0,0) and (64,0) are placed by worker 0 and stand in one chain of level 0, because their first digits are the same; then worker 0 places (128,0),
-and worker 1 looks for (64,0) in the middle of the Move.
+Written by `python3 tools/trace.py` from the library's own words; the tests compare it with a new run.
 
-Each row is a start or one turn of the worker that the text names: the kind of turn, the words that changed in nodes and levels, the worker's record after it.
+Each row is a start or one turn of the worker that the text names, refused ones too: the kind of turn, the words that changed in nodes and levels, the worker's record after it.
 `n3` is node 3 (reference 7), `L1` is level 1 (reference 2).
-
 """
+PARTS = [
+    ("examples/race.txt", """
+## The race: a failed exchange gives the word it met
+
+The text is `{name}`: two workers place (0,0). Worker 1's Put finds node 0 where it expects level 0. It acts on that word as Read does, in the same turn: the node has the
+call's pixel, so the call ends "found", and the node that the worker took stays held, now spare. The turn after it is refused: the worker has no call open.
+
+"""),
+    ("examples/move.txt", """
+## A chain move
+
+The text is `{name}`: chain limit 2, (0,0) and (64,0) are placed by worker 0 and stand in one chain of level 0, because their first digits are the same; then worker 0
+places (128,0), and worker 1 looks for (64,0) in the middle of the Move.
+
+"""),
+]
 
 
 def named(area, k, g=None):
@@ -64,17 +76,26 @@ def record(st, i):
     return ", ".join(out)
 
 
-def main():
-    with open(os.path.join(ROOT, TEXT), "rb") as text_file:
+def rows(name):
+    """The table of a text's lines after the first."""
+    with open(os.path.join(ROOT, name), "rb") as text_file:
         found = states(text_file.read())
-    print(HEAD.format(name=TEXT), end="")
     print("| line | text | turn | words changed in nodes and levels | record after it | answer |\n|---|---|---|---|---|---|")
     for k in range(1, len(found)):
         before, st = found[k - 1], found[k]
         i = int(st.line.split(",")[1])
         kind = "start" if st.line[0] == "c" else before.worker(i)["kind"]
         answer = ["", "new n%d" % st.reply[2], "found n%d" % st.reply[2], "full", ""][st.reply[1]]
+        if st.reply[0] not in (0, 9):
+            kind, answer = "none", "refused, %d" % st.reply[0]
         print("| %d | `%s` | %s | %s | %s | %s |" % (k + 1, st.line, kind, changes(before, st), record(st, i), answer))
+
+
+def main():
+    print(HEAD, end="")
+    for name, head in PARTS:
+        print(head.format(name=name), end="")
+        rows(name)
 
 
 if __name__ == "__main__":

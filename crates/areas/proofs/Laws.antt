@@ -4,6 +4,7 @@ use mathlib.Core.Path.{_≡_}
 use mathlib.Core.Bool.{Bool, true, false}
 use mathlib.Core.List.{List}
 use Prim.Native.Nat.{ℕ, _+_, _*_}
+use lib.Dec.{eqb}
 use native.Mathlib.Nat.{add-zero, add-assoc}
 use lib.ListN.{getD, set}
 use Rattle.words.specs.Choice.{pick}
@@ -13,7 +14,7 @@ use Rattle.settings.specs.Sizes.{levelWords}
 use Rattle.settings.specs.declared.Settings.{Settings}
 use Rattle.areas.specs.declared.Cell.{Cell}
 use Rattle.areas.specs.declared.Cell.the-variants.{Entry, Next}
-use Rattle.areas.specs.Memory.{memory, levelRef, isNode, named, pixelAt, nextAt, previousAt, depthAt, entryAt, cellAt, setCell, entryCell, fillLevel, levelTaken, nodeTaken, refTaken}
+use Rattle.areas.specs.Memory.{Memory, memory, levelRef, isNode, named, pixelAt, nextAt, previousAt, depthAt, entryAt, cellAt, setCell, exchanged, exchange, entryCell, fillLevel, levelTaken, nodeTaken, refTaken}
 
 module _ (s : Settings) (r : ℕ) where
   pub ref-node : {b : Bool} {n : ℕ} → b ≡ nodeTaken s n → n ≡ named r → isNode r ≡ true → b ≡ refTaken s r
@@ -88,3 +89,13 @@ module _ (w : ℕ) (nodes levels : List ℕ) (x : Cell) where
       → n ≡ set nodes (2 * i + 1) v → x ≡ Next i → memory n levels ≡ setCell w (memory nodes levels) x v
   unfolding setCell
   set-next v a b = simp (a, b)
+
+-- a cell is exchanged
+module _ (w : ℕ) (m : Memory) (x : Cell) (a b : ℕ) {v : ℕ} where
+  pub exchange-done : {m′ : Memory} → m′ ≡ setCell w m x b → v ≡ cellAt w m x → eqb v a ≡ true → exchanged v m′ ≡ exchange w m x a b
+  unfolding exchange pick
+  exchange-done p q e = simp (← q, e, p)
+
+  pub exchange-failed : v ≡ cellAt w m x → eqb v a ≡ false → exchanged v m ≡ exchange w m x a b
+  unfolding exchange pick
+  exchange-failed q e = simp (← q, e)

@@ -82,6 +82,19 @@ unfoldable pub setCell : ℕ → Memory → Cell → ℕ → Memory
 setCell w m (Entry g e) v = memory (m .nodes) (set (m .levels) (levelWords w * g + 2 + e) v)
 setCell w m (Next i) v = memory (set (m .nodes) (nodeWords * i + 1) v) (m .levels)
 
+-- what an exchange gives: the word that it met, and the memory that it leaves
+pub record Exchanged : Type 0 where
+  pub word : ℕ
+  pub memory : Memory
+
+-- an exchange by its parts
+abbrev pub exchanged : ℕ → Memory → Exchanged
+exchanged v m = record { word = v; memory = m }
+
+-- ""Exchange x from a to b" writes b only if x holds a."; document 02: "The new board's exchange returns what it found. Let ours do so too."
+unfoldable pub exchange : ℕ → Memory → Cell → ℕ → ℕ → Exchanged
+exchange w m x a b = exchanged (cellAt w m x) (pick (eqb (cellAt w m x) a) (setCell w m x b) m)
+
 -- "its digit at depth d picks the entry in a level of depth d": the entry of pixel p in level g
 unfoldable pub entryCell : ℕ → List ℕ → ℕ → ℕ → Cell
 entryCell w levels g p = Entry g (digit w p (depthAt w levels g))

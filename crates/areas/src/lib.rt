@@ -4,7 +4,7 @@ ghost use mathlib.Core.Path.{_≡_};
 ghost use Prim.Native.Nat.{_+_, _*_, _≤_};
 ghost use lib.Dec.{eqb};
 ghost use lib.ListN.{set};
-ghost use Rattle.areas.specs.Memory.{memory, levelRef, nodeRef, isNode, named, pixelAt, nextAt, previousAt, depthAt, entryAt, cellAt, setCell, entryCell, fillNode, fillLevel, levelTaken, nodeTaken, refTaken};
+ghost use Rattle.areas.specs.Memory.{memory, levelRef, nodeRef, isNode, named, pixelAt, nextAt, previousAt, depthAt, entryAt, cellAt, setCell, exchanged, exchange, entryCell, fillNode, fillLevel, levelTaken, nodeTaken, refTaken};
 use settings::Settings;
 use words::at;
 use words::fill_words;
@@ -157,6 +157,17 @@ pub fn set_cell(x: Cell, v: u32, nodes: &mut [u32], levels: &mut [u32])
             set_next(nodes, i, v);
         }
     }
+}
+
+// Cell x is exchanged from a to b: b is written only if it holds a. The word that it held.
+pub fn exchange(x: Cell, a: u32, b: u32, nodes: &mut [u32], levels: &mut [u32]) -> u32
+    ensures { λ r. ⌜ exchanged r (memory (now (nodes .exit)) (now (levels .exit))) ≡ exchange 3 (memory (now (nodes .entry)) (now (levels .entry))) x a b ⌝ }
+{
+    let word = cell_at(x, nodes, levels);
+    if word == a {
+        set_cell(x, b, nodes, levels);
+    }
+    word
 }
 
 // Node i gets its two words.

@@ -10,7 +10,7 @@ use Rattle.settings.specs.Sizes.{nodeWords, levelWords, workerWords, levelCount
 use Rattle.settings.specs.declared.Settings.{Settings}
 use Rattle.areas.specs.Memory.{Areas, areas}
 use Rattle.record.specs.declared.Answer.{Answer}
-use Rattle.record.specs.declared.Answer.the-variants.{New, Found, Full, Open}
+use Rattle.record.specs.declared.Answer.the-variants.{Nothing, New, Found, Full, Open}
 use Rattle.record.specs.declared.Reply.{Reply}
 use Rattle.record.specs.Kinds.{answerNo, answerNode}
 use Rattle.rules.specs.Operations.{opening}
@@ -51,7 +51,7 @@ race =
     ∷ runs 0 1 0 Open
     ∷ runs 1 1 0 Open
     ∷ runs 0 1 0 (New 0)
-    ∷ runs 1 2 0 (Found 0)
+    ∷ runs 1 1 0 (Found 0)
     ∷ []
 
 unfoldable pub table : List Row
@@ -62,8 +62,8 @@ table =
     ∷ row 1 4 8 0 (first ++ start 0 0 0 0 ∷ runs 0 2 0 (Found 0) ∷ taken 1 1 ∷ [])
     -- P3 Then (0,1): new 1 after 5.
     ∷ row 1 4 8 0 (first ++ start 0 0 1 0 ∷ runs 0 5 0 (New 1) ∷ taken 2 1 ∷ [])
-    -- P4 The race printed above: 2 nodes taken.
-    ∷ row 2 4 8 0 (race ++ taken 2 1 ∷ [])
+    -- P4 The race printed above: 2 nodes taken. Document 02: worker 1 ends a turn earlier, and its turn of line 10 is refused by 8.
+    ∷ row 2 4 8 0 (race ++ runs 1 1 8 Nothing ∷ taken 2 1 ∷ [])
     -- P5 Worker 1 then places (512,0): new 1, its spare.
     ∷ row 2 4 8 0 (race ++ start 1 512 0 0 ∷ runs 1 3 0 (New 1) ∷ taken 2 1 ∷ [])
     -- P6 One worker, limit 1, nodes 2: (0,0), then (0,1) is new 1 after 80 turns, levels taken 8.

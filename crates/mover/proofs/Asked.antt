@@ -1,12 +1,12 @@
 -- Question 6 of a moving turn, in the code: the ways through its parts, what a yes says of numbers, and that the Moves need not be at hand.
 -- Relies on words for tests with parts, on steps for bounds.
-use mathlib.Core.Path.{_≡_, refl, ap, sym, _∙_}
+use mathlib.Core.Path.{_≡_, ap, sym, _∙_}
 use mathlib.Core.Bool.{Bool, true, false}
 use mathlib.Core.List.{List, [], _∷_}
 use Prim.Native.Nat.{ℕ, suc, _+_, _≤_, _<_}
-use lib.Dec.{leb, ltb, eqb}
+use lib.Dec.{leb, eqb}
 use lib.ListN.{length}
-use borrow.Author.Tests.{ltb-true, leb-true, ne-eqb}
+use borrow.Author.Tests.{ltb-true, leb-true, ne-eqb, lt-ltb, le-ltb}
 use native.Mathlib.Omega.{arith}
 use Rattle.words.specs.Choice.{pick, both}
 use Rattle.words.specs.Digits.{depths}
@@ -15,17 +15,16 @@ use Rattle.settings.specs.declared.Settings.{Settings}
 use Rattle.settings.specs.Sizes.{maxMoves}
 use Rattle.settings.specs.Cut.{Sized}
 use Rattle.areas.specs.declared.Cell.{Cell}
-use Rattle.areas.specs.Memory.{Memory, memory, levelRef, isNode, pixelAt, nextAt, entryCell, cellAt, nodeTaken, refTaken}
+use Rattle.areas.specs.Memory.{Memory, memory, isNode, pixelAt, nextAt, entryCell, cellAt, nodeTaken, refTaken}
 use Rattle.record.specs.declared.Head.{Head}
 use Rattle.record.specs.declared.Move.{Move}
 use Rattle.rules.specs.Heads.{lastNode}
-use Rattle.rules.specs.Steps.{expected}
 use Rattle.rules.specs.Moving.{keyOf, homeCell, setCellOf}
-use Rattle.rules.specs.Asked.{remembers, picksIn, pixelFits, readsRef, goesBack, keyFits, moveLeft, closes, standsAt, picksHome, chainHeads, chainNexts, moveEnds, setNexts, setPuts, setLooks, setAppends, setCloses}
-use Rattle.steps.proofs.Asked.{level-most, closes-one, closes-most}
+use Rattle.rules.specs.Asked.{remembers, picksIn, pixelFits, readsRef, keyFits, moveLeft, standsAt, standsSetting, picksHome, chainHeads, chainNexts, moveEnds, setNexts, setEntry}
+use Rattle.steps.proofs.Asked.{level-most}
 use Rattle.mover.specs.declared.Inner.{Inner}
 use Rattle.mover.specs.declared.Mover.{Mover}
-use Rattle.mover.specs.Cut.{rememberIn, wordInner, keyCut, homeCut, keyFitsCut, picksHomeCut, roomIn, wordAsked, moveEndsCut, moveLeftCut, setClosesCut}
+use Rattle.mover.specs.Cut.{rememberIn, wordInner, keyCut, homeCut, keyFitsCut, picksHomeCut, roomIn, wordAsked, moveEndsCut}
 use Rattle.mover.specs.Moved.{outerNode, Around}
 
 -- room to remember the word read
@@ -52,18 +51,6 @@ pub cell-way : (w : ℕ) (h : Head) (n : ℕ) (nodes levels : List ℕ) {x : Cel
 unfolding setCellOf
 cell-way w h n nodes levels a b = simp (a, b)
 
-pub looks-way :
-    (w : ℕ) (s : Settings) (h : Head) (n : ℕ) (m : Memory) {r a b : Bool} {x : Cell}
-    → r ≡ both a b → a ≡ setPuts w s h n m → b ≡ readsRef w s x m → x ≡ setCellOf w h n m → r ≡ setLooks w s h n m
-unfolding setLooks
-looks-way w s h n m p q e f = simp (p, q, e, f)
-
--- a test, and a word that is followed
-pub ask-back :
-    (w taken level : ℕ) (levels : List ℕ) {r a b c : Bool} {word u : ℕ}
-    → r ≡ both a b → b ≡ goesBack w taken level word levels → word ≡ u → a ≡ c → r ≡ both c (goesBack w taken level u levels)
-ask-back w taken level levels p q e f = simp (p, q, e, f)
-
 -- the key of the innermost Move, and its entry
 module _ (v : Mover) (nodes : List ℕ) where
   pub key-call : eqb (v .moves) 1 ≡ true → v .head .pixel ≡ keyCut v nodes
@@ -86,18 +73,6 @@ module _ (v : Mover) (nodes : List ℕ) where
   unfolding homeCut
   home-way w levels a b = simp (a, b)
 
-  -- a Move more has room where R's next would be exchanged
-  pub left-asked :
-      {r : Bool} {word : ℕ}
-      → r ≡ ltb (v .moves) 7 → word ≡ nextAt nodes (v .head .node) → eqb word (levelRef (v .head .level)) ≡ true → r ≡ moveLeftCut 3 v nodes
-  unfolding moveLeftCut expected maxMoves depths pick
-  left-asked a b e = simp (← b, e, a)
-
-  pub left-free :
-      {word : ℕ} → word ≡ nextAt nodes (v .head .node) → eqb word (levelRef (v .head .level)) ≡ false → true ≡ moveLeftCut 3 v nodes
-  unfolding moveLeftCut expected pick
-  left-free b e = simp (← b, e)
-
 -- what a yes says of numbers
 pub node-below : (s : Settings) (i : ℕ) → nodeTaken s i ≡ true → Sized s → i ≤ 4096
 unfolding nodeTaken
@@ -112,23 +87,23 @@ module _ (s : Settings) (h : Head) (n : ℕ) {r : Bool} where
   unfolding setNexts
   nexts-level a e z = level-most s (h .level) (both-right (nodeTaken s n) _ (via a e)) z
 
-  pub puts-last : (w : ℕ) (m : Memory) → r ≡ setPuts w s h n m → r ≡ true → Sized s → n ≤ 4096
-  unfolding setPuts pixelFits
+  pub puts-level : (w : ℕ) (m : Memory) → r ≡ setEntry w s h n m → r ≡ true → Sized s → h .level ≤ 28689
+  unfolding setEntry picksIn
+  puts-level w m a e z = level-most s (h .level) (both-left _ _ (both-left _ (pixelFits s n (m .nodes)) (via a e))) z
+
+  pub puts-last : (w : ℕ) (m : Memory) → r ≡ setEntry w s h n m → r ≡ true → Sized s → n ≤ 4096
+  unfolding setEntry pixelFits
   puts-last w m a e z = node-below s n (both-left _ _ (both-right (picksIn w s (h .level) (m .levels)) _ (via a e))) z
 
-  pub appends-last : r ≡ setAppends s h n → r ≡ true → Sized s → n ≤ 4096
-  unfolding setAppends
+  pub appends-level : r ≡ standsSetting s h n → r ≡ true → Sized s → h .level ≤ 28689
+  unfolding standsSetting standsAt
+  appends-level a e z = level-most s (h .level) (both-left _ _ (both-left _ (nodeTaken s n) (via a e))) z
+
+  pub appends-last : r ≡ standsSetting s h n → r ≡ true → Sized s → n ≤ 4096
+  unfolding standsSetting
   appends-last a e z = node-below s n (both-right (standsAt s h) _ (via a e)) z
 
 module _ (w : ℕ) (s : Settings) (v : Mover) {r : Bool} where
-  pub set-closes-one : (nodes : List ℕ) → r ≡ setClosesCut w s v nodes → r ≡ true → 1 ≤ v .head .«held_level»
-  unfolding setClosesCut
-  set-closes-one nodes a e = closes-one s (v .head) refl (both-left (closes s (v .head)) _ (via a e))
-
-  pub set-closes-most : (nodes : List ℕ) → r ≡ setClosesCut w s v nodes → r ≡ true → Sized s → v .head .«held_level» ≤ 28689
-  unfolding setClosesCut
-  set-closes-most nodes a e z = closes-most s (v .head) refl (both-left (closes s (v .head)) _ (via a e)) z
-
   pub ends-child : (m : Memory) → r ≡ moveEndsCut w s v m → r ≡ true → Sized s → v .inner .child ≤ 28689
   unfolding moveEndsCut
   ends-child m a e z = level-most s (v .inner .child) (both-right (picksHomeCut w s v m) _ (via a e)) z
@@ -155,14 +130,20 @@ pub home-is : (w : ℕ) (v : Mover) (a : Move) (os : List Move) → Around v a o
 unfolding homeCut homeCell
 home-is w v a os r m = rw (key-is v a os (m .nodes) r, r .inner-is)
 
+-- whether a Move more has room
+module _ (v : Mover) (a : Move) (os : List Move) (o : Around v a os) where
+  pub left-true : v .moves < 7 → moveLeft 3 (a ∷ os) ≡ true
+  unfolding moveLeft maxMoves depths
+  left-true h = let n : v .moves ≡ suc (length os) = o .count in lt-ltb (suc (length os)) 7 (omega arith)
+
+  pub left-false : 7 ≤ v .moves → moveLeft 3 (a ∷ os) ≡ false
+  unfolding moveLeft maxMoves depths
+  left-false h = let n : v .moves ≡ suc (length os) = o .count in le-ltb (suc (length os)) 7 (omega arith)
+
 module _ (w : ℕ) (s : Settings) (v : Mover) (a : Move) (os : List Move) (o : Around v a os) where
   pub picks-home-is : (m : Memory) → picksHomeCut w s v m ≡ picksHome w s a os m
   unfolding picksHomeCut picksHome
   picks-home-is m = rw (key-fits-is s v a os (m .nodes) o, o .inner-is)
-
-  pub move-left-is : (nodes : List ℕ) → moveLeftCut w v nodes ≡ moveLeft w (v .head) (a ∷ os) nodes
-  unfolding moveLeftCut moveLeft
-  move-left-is nodes = rw (o .count)
 
   word-is : (word : ℕ) → wordAsked s (v .inner) word ≡ both (refTaken s word) (remembers s a word)
   unfolding wordAsked roomIn remembers
@@ -188,10 +169,6 @@ module _ (w : ℕ) (s : Settings) (v : Mover) (a : Move) (os : List Move) (o : A
       child-is : v .inner .child ≡ a .child
       child-is = ap (λ (i : Inner). i .child) (o .inner-is)
 
-  pub closes-asked : (nodes : List ℕ) {r b : Bool} → r ≡ setClosesCut w s v nodes → r ≡ b → setCloses w s (v .head) (a ∷ os) nodes ≡ b
-  unfolding setCloses setClosesCut
-  closes-asked nodes p f = simp (← move-left-is nodes, ← p, f)
-
   -- the node that is set is the one remembered last
   pub cell-is : (m : Memory) → setCellOf w (v .head) (v .inner .last) m ≡ setCellOf w (v .head) (lastNode a) m
   cell-is m = rw (last-is v a os o)
@@ -199,11 +176,8 @@ module _ (w : ℕ) (s : Settings) (v : Mover) (a : Move) (os : List Move) (o : A
   pub set-asked : {r b : Bool} → r ≡ setNexts s (v .head) (v .inner .last) → r ≡ b → setNexts s (v .head) (lastNode a) ≡ b
   set-asked p f = simp (← last-is v a os o, ← p, f)
 
-  pub puts-asked : (m : Memory) {r b : Bool} → r ≡ setPuts w s (v .head) (v .inner .last) m → r ≡ b → setPuts w s (v .head) (lastNode a) m ≡ b
+  pub puts-asked : (m : Memory) {r b : Bool} → r ≡ setEntry w s (v .head) (v .inner .last) m → r ≡ b → setEntry w s (v .head) (lastNode a) m ≡ b
   puts-asked m p f = simp (← last-is v a os o, ← p, f)
 
-  pub looks-asked : (m : Memory) {r b : Bool} → r ≡ setLooks w s (v .head) (v .inner .last) m → r ≡ b → setLooks w s (v .head) (lastNode a) m ≡ b
-  looks-asked m p f = simp (← last-is v a os o, ← p, f)
-
-  pub appends-asked : {r b : Bool} → r ≡ setAppends s (v .head) (v .inner .last) → r ≡ b → setAppends s (v .head) (lastNode a) ≡ b
+  pub appends-asked : {r b : Bool} → r ≡ standsSetting s (v .head) (v .inner .last) → r ≡ b → standsSetting s (v .head) (lastNode a) ≡ b
   appends-asked p f = simp (← last-is v a os o, ← p, f)

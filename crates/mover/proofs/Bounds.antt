@@ -3,21 +3,16 @@
 use mathlib.Core.Path.{_≡_, refl, ap, sym, subst}
 use mathlib.Core.Bool.{Bool, true}
 use Prim.Native.Nat.{ℕ, _+_, _≤_}
-use lib.Dec.{eqb}
 use native.Mathlib.Omega.{arith}
-use Rattle.words.specs.Choice.{both}
+use Rattle.words.specs.Choice.{pick, both}
 use Rattle.words.proofs.Choice.{pick-both, both-right, via}
 use Rattle.settings.specs.Cut.{Sized}
 use Rattle.settings.specs.declared.Settings.{Settings}
-use Rattle.areas.specs.declared.Cell.{Cell}
-use Rattle.areas.specs.Memory.{Memory, cellAt}
-use Rattle.record.specs.declared.Kind.{Kind}
 use Rattle.record.specs.declared.Head.{Head}
-use Rattle.rules.specs.Steps.{expected}
 use Rattle.mover.specs.declared.Inner.{Inner}
 use Rattle.mover.specs.declared.Mover.{Mover}
 use Rattle.mover.specs.declared.Moved.{Moved}
-use Rattle.mover.specs.Cut.{stays, refuses, forgetIn, MovedCut, movedCut, wordAsked, wordHead, wordInner, placeCut, begunCut, ends}
+use Rattle.mover.specs.Cut.{stays, refuses, forgetIn, wordAsked, wordHead, wordInner, setDone, begunCut, ends}
 use Rattle.mover.specs.Moved.{Counts, as-many, one-more, one-less}
 use Rattle.mover.proofs.Asked.{room-most}
 
@@ -27,14 +22,6 @@ counts-refused v s a = as-many (ap (λ (x : Moved). x .mover .moves) a)
 
 pub counts-stay : (v : Mover) (s : Settings) (h : Head) (i : Inner) {r : Moved} → r ≡ stays v s h i → Counts v (r .mover)
 counts-stay v s h i a = as-many (ap (λ (x : Moved). x .mover .moves) a)
-
-pub counts-place :
-    (w : ℕ) (failed : Kind) (v : Mover) (s : Settings) (x : Cell) (m : Memory) {r : Moved} {m′ : Memory}
-    → movedCut r m′ ≡ placeCut w failed v s x m → Counts v (r .mover)
-unfolding placeCut
-counts-place w failed v s x m a =
-    subst (λ (c : MovedCut). Counts v (c .moved .mover)) (sym a)
-    (pick-both (λ (c : MovedCut). Counts v (c .moved .mover)) (expected (v .head) (cellAt w m x)) (λ _. as-many refl) (λ _. as-many refl))
 
 -- the nodes remembered stay within the bound
 pub most-refused : (v : Mover) (s : Settings) {r : Moved} → r ≡ refuses v s → v .inner .count ≤ 8 → r .mover .inner .count ≤ 8
@@ -49,28 +36,34 @@ pub most-word :
     → v .inner .count ≤ 8 → Sized s → r .mover .inner .count ≤ 8
 most-word v s word x a b e h z = rw a (room-most s (v .inner) word (both-right x _ (via b e)) h z)
 
-pub most-place :
-    (w : ℕ) (failed : Kind) (v : Mover) (s : Settings) (x : Cell) (m : Memory) {r : Moved} {m′ : Memory}
-    → movedCut r m′ ≡ placeCut w failed v s x m → v .inner .count ≤ 8 → r .mover .inner .count ≤ 8
-unfolding placeCut forgetIn
-most-place w failed v s x m a h =
-    subst (λ (c : MovedCut). c .moved .mover .inner .count ≤ 8) (sym a)
-    (pick-both (λ (c : MovedCut). c .moved .mover .inner .count ≤ 8) (expected (v .head) (cellAt w m x)) (λ _. omega arith) (λ _. h))
-
-pub most-begun : (v : Mover) (s : Settings) (h : Head) (c : ℕ) {r : Moved} → r ≡ begunCut v s h c → v .inner .count ≤ 8 → r .mover .inner .count ≤ 8
-unfolding begunCut
-most-begun v s h c a b =
-    subst (λ (x : Moved). x .mover .inner .count ≤ 8) (sym a) (pick-both (λ (x : Moved). x .mover .inner .count ≤ 8) (eqb c 0) (λ _. b) (λ _. omega arith))
-
 pub most-end : (v : Mover) (s : Settings) {r : Moved} → r ≡ ends v s → v .inner .count ≤ 8 → r .mover .inner .count ≤ 8
 most-end v s a h = rw a h
 
--- one Move more, one less
-pub counts-begun : (v : Mover) (s : Settings) (h : Head) (c : ℕ) {r : Moved} → r ≡ begunCut v s h c → Counts v (r .mover)
-unfolding begunCut
-counts-begun v s h c a =
-    subst (λ (x : Moved). Counts v (x .mover)) (sym a)
-    (pick-both (λ (x : Moved). Counts v (x .mover)) (eqb c 0) (λ _. as-many refl) (λ _. one-more refl))
-
+-- one Move less
 pub counts-end : (v v′ : Mover) → v′ .moves + 1 ≡ v .moves → Counts v v′
 counts-end v v′ e = one-less e
+
+-- both bounds of what is made of a word that an exchange met, or of R's next where no Move more has room
+pub record Bounded (v : Mover) (r : Moved) : Type 0 where
+  pub counts : Counts v (r .mover)
+  pub most : v .inner .count ≤ 8 → r .mover .inner .count ≤ 8
+
+module _ (v : Mover) (s : Settings) where
+  pub bounded-refused : Bounded v (refuses v s)
+  bounded-refused = record { counts = as-many refl; most = λ h. h }
+
+  pub bounded-done : Bounded v (setDone v s)
+  unfolding forgetIn
+  bounded-done = record { counts = as-many refl; most = λ h. omega arith }
+
+  pub bounded-begun : Bounded v (begunCut v s)
+  bounded-begun = record { counts = one-more refl; most = λ h. omega arith }
+
+  -- a word read or met by a failed exchange
+  pub bounded-word : (q : Bool) (h : Head) {r : Moved} → r ≡ pick q (stays v s h (v .inner)) (refuses v s) → Bounded v r
+  bounded-word q h p =
+      subst (λ (x : Moved). Bounded v x) (sym p)
+      (pick-both (λ (x : Moved). Bounded v x) q (λ _. record { counts = as-many refl; most = λ k. k }) (λ _. bounded-refused))
+
+  pub bounded-met : (e q : Bool) (h : Head) {x r : Moved} → r ≡ pick e x (pick q (stays v s h (v .inner)) (refuses v s)) → Bounded v x → Bounded v r
+  bounded-met e q h p b = subst (λ (x : Moved). Bounded v x) (sym p) (pick-both (λ (x : Moved). Bounded v x) e (λ _. b) (λ _. bounded-word q h refl))

@@ -1,53 +1,44 @@
 -- That what the code gives is the moving turn, whatever the Moves are besides what a turn needs of them.
--- Relies on Asked for the Moves, on Bounds, on steps for levels taken and closed with.
+-- Relies on Asked for the Moves, on Bounds, on steps for levels taken and for exchanges.
 use mathlib.Core.Path.{_≡_, refl, ap, sym, subst, _∙_}
 use mathlib.Core.Bool.{Bool, true, false, not}
 use mathlib.Core.List.{List, [], _∷_}
-use Prim.Native.Nat.{ℕ, suc, _+_, _*_, _-_, _≤_}
+use Prim.Native.Nat.{ℕ, suc, _+_, _*_, _-_, _≤_, _<_}
 use lib.Dec.{eqb, leb}
 use lib.ListN.{length, set}
 use borrow.Author.Tests.{eq-eqb, ne-eqb, lt-ltb, le-ltb}
 use native.Mathlib.Omega.{arith}
 use Rattle.words.specs.Choice.{pick, both}
+use Rattle.words.proofs.Choice.{via, both-false-left}
 use Rattle.settings.specs.declared.Settings.{Settings}
 use Rattle.areas.specs.declared.Cell.{Cell}
-use Rattle.areas.specs.Memory.{Memory, memory, levelRef, nodeRef, isNode, named, nextAt, cellAt, setCell}
+use Rattle.areas.specs.declared.Cell.the-variants.{Next}
+use Rattle.areas.specs.Memory.{Memory, memory, levelRef, nodeRef, isNode, named, nextAt, cellAt, setCell, exchanged, exchange, refTaken}
 use Rattle.record.specs.declared.Kind.{Kind}
-use Rattle.record.specs.declared.Kind.the-variants.{ChainNext, SetLook}
-use Rattle.record.specs.declared.Answer.the-variants.{Open}
+use Rattle.record.specs.declared.Kind.the-variants.{ChainNext, SetLook, SetPut, SetRead, SetAppend, SetLevel, SetFollow}
 use Rattle.record.specs.declared.Head.{Head}
 use Rattle.record.specs.declared.Move.{Move}
 use Rattle.record.specs.Kinds.{kindNo}
-use Rattle.record.specs.Layout.{newMove}
 use Rattle.rules.specs.Heads.{to, holdingLevel, lastNode, remember, forget}
-use Rattle.rules.specs.Steps.{Step, going, expected, peeked, takeLevel, closed}
-use Rattle.rules.specs.Moving.{homeCell, setCellOf, setLast, chainWord, setMet, setReadWord, setFollowWord, setNode, setNext, afterMove, moveEnd}
-use Rattle.rules.specs.Asked.{readsBy}
+use Rattle.rules.specs.Steps.{Step, going, expected, peeked, byCount, takeLevel, exchanging, closed, beginsMove}
+use Rattle.rules.specs.Moving.{homeCell, setCellOf, setLast, chainWord, setMet, setReadWord, setFollowWord, setNode, setNext, setLook, setPut, setRead, setTail, setAppend, setClose, setFollow, afterMove, moveEnd}
+use Rattle.rules.specs.Asked.{readsRef, exchanges, moveLeft, tails, standsAt, standsSetting, standsWith, setEntry, setFollowsRef, setLooks, setPuts, setAppends, setCloses, setFollows, readsBy}
 use Rattle.rules.specs.Acts.{actBy}
-use Rattle.steps.specs.Tried.{Tried, tried, unlessSix}
-use Rattle.steps.specs.Cut.{levelCut, levelCounted, takeLevelCut, CloseCut, closeCut, closedCut, begun}
-use Rattle.steps.proofs.Ties.{take-level-cut, closed-cut}
+use Rattle.steps.specs.Tried.{Tried, tried, unlessSix, exchangeTried}
+use Rattle.steps.specs.Cut.{levelCut, levelCounted, takeLevelCut}
+use Rattle.steps.proofs.Ties.{take-level-cut}
+use Rattle.steps.proofs.Exchanges.{exchange-tried}
 use Rattle.mover.specs.declared.Inner.{Inner}
 use Rattle.mover.specs.declared.Mover.{Mover}
 use Rattle.mover.specs.declared.Moved.{Moved}
-use Rattle.mover.specs.Cut.{movedOf, stays, refuses, rememberIn, forgetIn, MovedCut, movedCut, homeCut, lastHead, wordHead, wordInner, metHead, followHead, placeCut, begunCut, endHead, ends, isMoving}
+use Rattle.mover.specs.Cut.{stays, refuses, rememberIn, forgetIn, homeCut, lastHead, wordHead, wordInner, metHead, followHead, setDone, peekMet, readMet, followMet, putMet, appendMet, closeMet, closeNoRoom, begunCut, endHead, ends, isMoving}
 use Rattle.mover.specs.Moved.{Around, moveAfter, listAfter, moved, Gives}
-use Rattle.mover.proofs.Asked.{last-is, home-is, cell-is}
-use Rattle.mover.proofs.Bounds.{counts-refused, most-refused}
-
--- the word in a cell
-pub cell-word : (w : ℕ) (m : Memory) (y : Cell) {word : ℕ} {x : Cell} → word ≡ cellAt w m x → x ≡ y → word ≡ cellAt w m y
-cell-word w m y a b = simp (a, b)
+use Rattle.mover.proofs.Asked.{last-is, home-is, cell-is, left-true, left-false, puts-asked, appends-asked}
+use Rattle.mover.proofs.Bounds.{counts-refused, most-refused, bounded-refused, bounded-done, bounded-begun, bounded-word, bounded-met}
 
 module _ (w : ℕ) (v : Mover) (a : Move) (os : List Move) (m : Memory) (r : Around v a os) where
   pub home-word : {word : ℕ} {x : Cell} → word ≡ cellAt w m x → x ≡ homeCut w v m → word ≡ cellAt w m (homeCell w (v .head) a os m)
   home-word p q = p ∙ ap (cellAt w m) (q ∙ home-is w v a os r m)
-
-  pub set-cell : (s : Settings) {x : Cell} → x ≡ setCellOf w (v .head) (v .inner .last) m → x ≡ setCellOf w (v .head) (lastNode a) m
-  set-cell s q = q ∙ cell-is w s v a os r m
-
-  pub set-word : (s : Settings) {word : ℕ} {x : Cell} → word ≡ cellAt w m x → x ≡ setCellOf w (v .head) (v .inner .last) m → word ≡ cellAt w m (setCellOf w (v .head) (lastNode a) m)
-  set-word s p q = p ∙ ap (cellAt w m) (q ∙ cell-is w s v a os r m)
 
 pub last-word :
     (v : Mover) (a : Move) (os : List Move) (nodes : List ℕ) {word : ℕ} → Around v a os → word ≡ nextAt nodes (v .inner .last) → word ≡ nextAt nodes (lastNode a)
@@ -133,13 +124,6 @@ module _ (v : Mover) (s : Settings) (a : Move) (os : List Move) (o : Around v a 
   word-is m u {word} p b =
       stay-is v s a os m p ∙ (ap (λ (t : Step). tried 0 t) (word-step m word) ∙ ap (λ (x : ℕ). tried 0 (chainWord s (v .head) a os x m)) b)
 
-  -- a cell is looked at
-  pub looked-at :
-      (m : Memory) (u : ℕ) (here other : Kind) {r : Moved} {h : Head} {word : ℕ} {k : Kind}
-      → r ≡ stays v s h (v .inner) → h ≡ peeked (v .head) word k other → word ≡ u → k ≡ here
-      → moved v r a os m ≡ tried 0 (going s (peeked (v .head) u here other) (a ∷ os) m)
-  looked-at m u here other p b c d = same-is v s a os m o p ∙ (simp (b, c, d))
-
   -- a word is read again
   pub read-is :
       (m : Memory) (u : ℕ) {r : Moved} {h : Head} {g word : ℕ}
@@ -163,15 +147,6 @@ module _ (v : Mover) (s : Settings) (a : Move) (os : List Move) (o : Around v a 
   unfolding setNext setCell
   next-is w nodes levels {n} p b c e = same-is v s a os (memory n levels) o p ∙ (simp (b, c, e, last-is v a os o))
 
-  -- a choice between two ways of the code is that choice between two steps
-  along :
-      (b : Bool) (x y : MovedCut) (t u : Step)
-      → moved v (x .moved) a os (x .memory) ≡ tried 0 t → moved v (y .moved) a os (y .memory) ≡ tried 0 u
-      → moved v (pick b x y .moved) a os (pick b x y .memory) ≡ tried 0 (pick b t u)
-  unfolding pick
-  along true x y t u p q = p
-  along false x y t u p q = q
-
   -- the node is set
   set-step :
       (m : Memory) → going s (lastHead (v .head) (forgetIn (v .inner))) (moveAfter (forgetIn (v .inner)) a ∷ os) m ≡ setLast s (v .head) (forget a) os m
@@ -180,18 +155,74 @@ module _ (v : Mover) (s : Settings) (a : Move) (os : List Move) (o : Around v a 
       ap (λ (x : Move). going s (lastHead (v .head) (forgetIn (v .inner))) (x ∷ os) m) (forget-after v a os o)
       ∙ last-step m (forgetIn (v .inner)) (forget a) (ap (λ (i : Inner). i .count - 1) (o .inner-is)) (ap (λ (i : Inner). i .child) (o .inner-is))
 
-  -- a cell is exchanged
-  pub place-is :
-      (w : ℕ) (failed : Kind) (y : Cell) (m : Memory) {r : Moved} {m′ : Memory} {x : Cell}
-      → movedCut r m′ ≡ placeCut w failed v s x m → x ≡ y → moved v r a os m′ ≡ tried 0 (setNode w failed s (v .head) a os y m)
-  unfolding placeCut setNode
-  place-is w failed y m {x} p e =
-      let c : moved v (placeCut w failed v s x m .moved) a os (placeCut w failed v s x m .memory) ≡ tried 0 (setNode w failed s (v .head) a os x m) =
-      along (expected (v .head) (cellAt w m x)) _ _ _ _
-      (stay-is v s a os _ refl ∙ ap (λ (t : Step). tried 0 t) (set-step _ ∙ ap (λ (n : ℕ). setLast s (v .head) (forget a) os (setCell w m x (nodeRef n))) (last-is v a os o)))
-      (same-is v s a os _ o refl)
-      in
-      ap (λ (c : MovedCut). moved v (c .moved) a os (c .memory)) p ∙ (c ∙ ap (λ (z : Cell). tried 0 (setNode w failed s (v .head) a os z m)) e)
+  done-is : (m : Memory) → moved v (setDone v s) a os m ≡ tried 0 (setLast s (v .head) (forget a) os m)
+  done-is m = stay-is v s a os m refl ∙ ap (λ (t : Step). tried 0 t) (set-step m)
+
+  -- a Move has begun inside
+  begun-is : (m : Memory) → moved v (begunCut v s) a os m ≡ tried 0 (beginsMove s (v .head) (a ∷ os) m)
+  unfolding listAfter pick
+  begun-is m = simp (ne-eqb (v .moves + 1) (v .moves) (λ q. omega arith), lt-ltb (v .moves) (v .moves + 1) (omega arith))
+
+  -- question 6 of a word that was read, or met by a failed exchange, and what is done with it
+  met-is : (q : Bool) (m : Memory) (failed : Step) (y : Moved) {r : Moved} → r ≡ pick q y (refuses v s) → moved v y a os m ≡ tried 0 failed → moved v r a os m ≡ unlessSix q s (v .head) (a ∷ os) m (tried 0 failed)
+  unfolding unlessSix pick
+  met-is true m failed y p e = ap (λ (x : Moved). moved v x a os m) p ∙ e
+  met-is false m failed y p e = six-no v false s a os m (tried 0 failed) o p refl
+
+  peek-met : (before : Bool) (m : Memory) (word : ℕ) (here other : Kind) {r : Moved} → r ≡ peekMet before v s word here other → moved v r a os m ≡ unlessSix (both before (refTaken s word)) s (v .head) (a ∷ os) m (tried 0 (going s (peeked (v .head) word here other) (a ∷ os) m))
+  unfolding peekMet
+  peek-met before m word here other p = met-is (both before (refTaken s word)) m _ _ p (same-is v s a os m o refl)
+
+  read-met : (before : Bool) (m : Memory) (word : ℕ) {r : Moved} → r ≡ readMet before v s word → moved v r a os m ≡ unlessSix (both before (refTaken s word)) s (v .head) (a ∷ os) m (tried 0 (setReadWord s (v .head) a os word m))
+  unfolding readMet
+  read-met before m word p = met-is (both before (refTaken s word)) m _ _ p (read-is m word refl refl refl refl)
+
+  follow-met : (before : Bool) (w : ℕ) (m : Memory) (word : ℕ) {r : Moved} → r ≡ followMet before w v s word (m .levels) → moved v r a os m ≡ unlessSix (both before (setFollowsRef w s (v .head) word (m .levels))) s (v .head) (a ∷ os) m (tried 0 (setFollowWord w s (v .head) a os word m))
+  unfolding followMet
+  follow-met before w m word p = met-is (both before (setFollowsRef w s (v .head) word (m .levels))) m _ _ p (follow-is w m word refl refl refl)
+
+  -- what is made of the word that an exchange met
+  exchange-is :
+      (e : Bool) (m : Memory) (done : Step) (x y : Moved) (u : Tried) {r : Moved}
+      → r ≡ pick e x y → moved v x a os m ≡ tried 0 done → moved v y a os m ≡ u → moved v r a os m ≡ pick e (tried 0 done) u
+  unfolding pick
+  exchange-is true m done x y u p d f = ap (λ (z : Moved). moved v z a os m) p ∙ d
+  exchange-is false m done x y u p d f = ap (λ (z : Moved). moved v z a os m) p ∙ f
+
+  put-is :
+      (m : Memory) (word : ℕ) {r : Moved}
+      → r ≡ putMet v s word
+      → moved v r a os m ≡ exchangeTried s (v .head) (a ∷ os) word m (setLast s (v .head) (forget a) os m) (refTaken s word) (setReadWord s (v .head) a os word m)
+  unfolding putMet both
+  put-is m word p = exchange-is (expected (v .head) word) m _ _ _ _ p (done-is m) (read-met true m word refl)
+
+  append-is :
+      (w : ℕ) (m : Memory) (word : ℕ) {r : Moved}
+      → r ≡ appendMet w v s word (m .levels)
+      → moved v r a os m ≡ exchangeTried s (v .head) (a ∷ os) word m (setLast s (v .head) (forget a) os m) (setFollowsRef w s (v .head) word (m .levels)) (setFollowWord w s (v .head) a os word m)
+  unfolding appendMet both
+  append-is w m word p = exchange-is (expected (v .head) word) m _ _ _ _ p (done-is m) (follow-met true w m word refl)
+
+  close-is :
+      (w : ℕ) (m : Memory) (word : ℕ) {r : Moved}
+      → r ≡ closeMet w v s word (m .levels)
+      → moved v r a os m ≡ exchangeTried s (v .head) (a ∷ os) word m (beginsMove s (v .head) (a ∷ os) m) (setFollowsRef w s (v .head) word (m .levels)) (setFollowWord w s (v .head) a os word m)
+  unfolding closeMet both
+  close-is w m word p = exchange-is (expected (v .head) word) m _ _ _ _ p (begun-is m) (follow-met true w m word refl)
+
+  -- SetClose where no Move more has room: R's next is read and not exchanged
+  no-room-is :
+      (w : ℕ) (m : Memory) (q : Bool) {r : Moved}
+      → eqb (nextAt (m .nodes) (v .head .node)) (levelRef (v .head .level)) ≡ q → r ≡ closeNoRoom w v s (nextAt (m .nodes) (v .head .node)) (m .levels)
+      → moveLeft w (a ∷ os) ≡ false → standsWith s (v .head) (v .head .«held_level») (s .«levels_taken») ≡ true
+      → moved v r a os m ≡ unlessSix (setCloses w s (v .head) (a ∷ os) m) s (v .head) (a ∷ os) m (tried 0 (setClose w s (v .head) a os m))
+  unfolding closeNoRoom setCloses setClose closed exchanges exchanging exchange cellAt expected both pick
+  no-room-is w m true e p f g = six-no v _ s a os m _ o (p ∙ simp e) (simp (e, f, g))
+  no-room-is w m false e p f g = follow-met true w m (nextAt (m .nodes) (v .head .node)) (p ∙ simp e) ∙ simp (e, f, g)
+
+  -- question 6 is no before the exchange
+  pub six-before : (before q : Bool) (m : Memory) (u : Tried) {r : Moved} → r ≡ refuses v s → before ≡ false → moved v r a os m ≡ unlessSix (both before q) s (v .head) (a ∷ os) m u
+  six-before before q m u p e = six-no v _ s a os m u o p (both-false-left q e)
 
   -- a level is taken
   pub level-is :
@@ -201,29 +232,6 @@ module _ (v : Mover) (s : Settings) (a : Move) (os : List Move) (o : Around v a 
       → moved v r a os (memory nodes l) ≡ tried 0 (takeLevel w k s (v .head) (a ∷ os) (memory nodes levels))
   level-is w k nodes levels {s′} {h} {l} p b c e =
       same-is v s′ a os (memory nodes l) o p ∙ (simp (b, c, take-level-cut w s (v .head) (a ∷ os) (memory nodes levels) k, ← e))
-
-  -- R's next is exchanged to the level in hand: a Move begins inside the innermost one
-  begun-step :
-      (m : Memory) (h : Head) (c : ℕ) → moved v (begunCut v s h c) a os m ≡ tried 0 (going s h (begun (v .head .level) c (a ∷ os)) m)
-  unfolding begunCut begun listAfter pick
-  begun-step m h c = go (eqb c 0)
-    where
-      go :
-          (b : Bool)
-          → moved v (pick b (stays v s h (v .inner)) (movedOf 0 Open s h (v .moves + 1) (record { home = v .head .level; child = c - 1; count = 0; last = 0 }) (v .inner .last))) a os m
-          ≡ tried 0 (going s h (pick b (a ∷ os) (newMove (v .head .level) (c - 1) ∷ a ∷ os)) m)
-      go true = simp (eq-eqb (v .moves) (v .moves) refl, same-after v a os o)
-      go false = simp (ne-eqb (v .moves + 1) (v .moves) (λ e. omega arith), lt-ltb (v .moves) (v .moves + 1) (omega arith))
-
-  pub close-is :
-      (w : ℕ) (failed : Kind) (nodes levels : List ℕ) {r : Moved} {h : Head} {c : ℕ} {n : List ℕ}
-      → r ≡ begunCut v s h c → closeCut h c n ≡ closedCut failed (v .head) nodes → 1 ≤ v .head .«held_level»
-      → moved v r a os (memory n levels) ≡ tried 0 (closed w failed s (v .head) (a ∷ os) (memory nodes levels))
-  close-is w failed nodes levels {r} {h} {c} {n} p b one =
-      ap (λ (x : Moved). moved v x a os (memory n levels)) p
-      ∙ (begun-step (memory n levels) h c
-      ∙ (ap (λ (x : CloseCut). tried 0 (going s (x .head) (begun (v .head .level) (x .child) (a ∷ os)) (memory (x .nodes) levels))) b
-      ∙ ap (λ (t : Step). tried 0 t) (sym (closed-cut w s (v .head) (a ∷ os) (memory nodes levels) failed one))))
 
   -- the Move has ended
   pub end-is :
@@ -237,14 +245,122 @@ module _ (v : Mover) (s : Settings) (a : Move) (os : List Move) (o : Around v a 
       simp
       (p, b, c, d, g, home-is w v a os o m, end-head v a os o, ne-eqb (v .moves - 1) (v .moves) (λ e. omega arith), le-ltb (v .moves) (v .moves - 1) (omega arith))
 
+-- SetLook, SetTail, SetRead, SetFollow: a word is read
+module _ (w : ℕ) (v : Mover) (s : Settings) (nodes levels : List ℕ) {r : Moved} {word : ℕ} {q : Bool} where
+  pub look-gives :
+      {x : Cell}
+      → r ≡ peekMet q v s word SetPut SetRead → word ≡ cellAt w (memory nodes levels) x → x ≡ setCellOf w (v .head) (v .inner .last) (memory nodes levels)
+      → q ≡ setEntry w s (v .head) (v .inner .last) (memory nodes levels)
+      → Gives v s (memory nodes levels) r (memory nodes levels) (λ a os. setLooks w s (v .head) (lastNode a) (memory nodes levels)) (λ a os. setLook w s (v .head) a os (memory nodes levels))
+  unfolding setLooks setLook readsRef peekMet
+  look-gives p e x-is q =
+      let m = memory nodes levels in
+      let k = bounded-word v s _ _ p in
+      record {
+        gives = λ a os o. peek-met v s a os o _ m _ SetPut SetRead p ∙ simp (e, x-is, cell-is w s v a os o m, q, last-is v a os o);
+        counts = k .counts;
+        most = k .most;
+      }
+
+  pub tail-gives :
+      {n : Kind}
+      → r ≡ peekMet q v s word n SetFollow → word ≡ nextAt nodes (v .head .node) → n ≡ byCount s (v .head .count) SetAppend SetLevel SetFollow → q ≡ standsAt s (v .head)
+      → Gives v s (memory nodes levels) r (memory nodes levels) (λ a os. tails s (v .head) nodes) (λ a os. setTail w s (v .head) a os (memory nodes levels))
+  unfolding tails setTail peekMet
+  tail-gives {n} p e k-is q =
+      let k = bounded-word v s _ _ p in
+      record { gives = λ a os o. peek-met v s a os o _ (memory nodes levels) _ n SetFollow p ∙ simp (e, k-is, q); counts = k .counts; most = k .most }
+
+  pub read-gives :
+      {x : Cell}
+      → r ≡ readMet q v s word → word ≡ cellAt w (memory nodes levels) x → x ≡ setCellOf w (v .head) (v .inner .last) (memory nodes levels)
+      → q ≡ setEntry w s (v .head) (v .inner .last) (memory nodes levels)
+      → Gives v s (memory nodes levels) r (memory nodes levels) (λ a os. setLooks w s (v .head) (lastNode a) (memory nodes levels)) (λ a os. setRead w s (v .head) a os (memory nodes levels))
+  unfolding setLooks setRead readsRef readMet
+  read-gives p e x-is q =
+      let m = memory nodes levels in
+      let k = bounded-word v s _ _ p in
+      record {
+        gives = λ a os o. read-met v s a os o _ m _ p ∙ simp (e, x-is, cell-is w s v a os o m, q, last-is v a os o);
+        counts = k .counts;
+        most = k .most;
+      }
+
+  pub follow-gives :
+      r ≡ followMet q w v s word levels → word ≡ nextAt nodes (v .head .node) → q ≡ standsAt s (v .head)
+      → Gives v s (memory nodes levels) r (memory nodes levels) (λ a os. setFollows w s (v .head) (memory nodes levels)) (λ a os. setFollow w s (v .head) a os (memory nodes levels))
+  unfolding setFollows setFollow followMet
+  follow-gives p e q =
+      let k = bounded-word v s _ _ p in
+      record { gives = λ a os o. follow-met v s a os o _ w (memory nodes levels) _ p ∙ simp (e, q); counts = k .counts; most = k .most }
+
+-- SetPut, SetAppend: the exchange, and what is made of the word that it met
+module _ (w : ℕ) (v : Mover) (s : Settings) (nodes levels : List ℕ) {r : Moved} {n l : List ℕ} {word b : ℕ} where
+  pub put-gives :
+      {x : Cell} {q : Bool}
+      → r ≡ putMet v s word → exchanged word (memory n l) ≡ exchange w (memory nodes levels) x (levelRef (v .head .level)) b → b ≡ nodeRef (v .inner .last)
+      → x ≡ setCellOf w (v .head) (v .inner .last) (memory nodes levels) → q ≡ setEntry w s (v .head) (v .inner .last) (memory nodes levels) → q ≡ true
+      → Gives v s (memory nodes levels) r (memory n l) (λ a os. setPuts w s (v .head) (lastNode a) (memory nodes levels)) (λ a os. setPut w s (v .head) a os (memory nodes levels))
+  unfolding setPuts setPut setNode putMet readMet
+  put-gives p e b-is x-is q q-yes =
+      let m = memory nodes levels in
+      let k = bounded-met v s _ _ _ p (bounded-done v s) in
+      record {
+        gives = λ a os o.
+            exchange-tried w s (v .head) (a ∷ os) m _ true (setCellOf w (v .head) (lastNode a) m) (nodeRef (lastNode a)) (setLast s (v .head) (forget a) os) (setReadWord s (v .head) a os) (λ u z. refTaken s u)
+            (put-is v s a os o _ _ p) e (x-is ∙ cell-is w s v a os o m) (b-is ∙ ap nodeRef (last-is v a os o)) (puts-asked w s v a os o m q q-yes) refl;
+        counts = k .counts;
+        most = k .most;
+      }
+
+  pub append-gives :
+      {q : Bool}
+      → r ≡ appendMet w v s word l → exchanged word (memory n l) ≡ exchange w (memory nodes levels) (Next (v .head .node)) (levelRef (v .head .level)) b → b ≡ nodeRef (v .inner .last)
+      → q ≡ standsSetting s (v .head) (v .inner .last) → q ≡ true
+      → Gives v s (memory nodes levels) r (memory n l) (λ a os. setAppends w s (v .head) (lastNode a) (memory nodes levels)) (λ a os. setAppend w s (v .head) a os (memory nodes levels))
+  unfolding setAppends setAppend setNode appendMet followMet
+  append-gives p e b-is q q-yes =
+      let m = memory nodes levels in
+      let k = bounded-met v s _ _ _ p (bounded-done v s) in
+      record {
+        gives = λ a os o.
+            exchange-tried w s (v .head) (a ∷ os) m _ true (Next (v .head .node)) (nodeRef (lastNode a)) (setLast s (v .head) (forget a) os) (setFollowWord w s (v .head) a os) (λ u z. setFollowsRef w s (v .head) u (z .levels))
+            (append-is v s a os o w _ _ p) e refl (b-is ∙ ap nodeRef (last-is v a os o)) (appends-asked w s v a os o q q-yes) refl;
+        counts = k .counts;
+        most = k .most;
+      }
+
+-- SetClose: the exchange where a Move more has room, and R's next read where none has
+module _ (v : Mover) (s : Settings) (nodes levels : List ℕ) {r : Moved} {q : Bool} where
+  pub close-gives :
+      {n l : List ℕ} {word b : ℕ}
+      → r ≡ closeMet 3 v s word l → exchanged word (memory n l) ≡ exchange 3 (memory nodes levels) (Next (v .head .node)) (levelRef (v .head .level)) b → b ≡ levelRef (v .head .«held_level» - 1)
+      → v .moves < 7 → q ≡ standsWith s (v .head) (v .head .«held_level») (s .«levels_taken») → q ≡ true
+      → Gives v s (memory nodes levels) r (memory n l) (λ a os. setCloses 3 s (v .head) (a ∷ os) (memory nodes levels)) (λ a os. setClose 3 s (v .head) a os (memory nodes levels))
+  unfolding setCloses setClose closed closeMet followMet
+  close-gives p e b-is room q q-yes =
+      let m = memory nodes levels in
+      let k = bounded-met v s _ _ _ p (bounded-begun v s) in
+      record {
+        gives = λ a os o.
+            exchange-tried 3 s (v .head) (a ∷ os) m _ (moveLeft 3 (a ∷ os)) (Next (v .head .node)) (levelRef (v .head .«held_level» - 1)) (beginsMove s (v .head) (a ∷ os)) (setFollowWord 3 s (v .head) a os) (λ u z. setFollowsRef 3 s (v .head) u (z .levels))
+            (close-is v s a os o 3 _ _ p) e refl b-is (via q q-yes) (left-true v a os o room);
+        counts = k .counts;
+        most = k .most;
+      }
+
+  pub no-room-gives :
+      r ≡ closeNoRoom 3 v s (nextAt nodes (v .head .node)) levels → 7 ≤ v .moves → q ≡ standsWith s (v .head) (v .head .«held_level») (s .«levels_taken») → q ≡ true
+      → Gives v s (memory nodes levels) r (memory nodes levels) (λ a os. setCloses 3 s (v .head) (a ∷ os) (memory nodes levels)) (λ a os. setClose 3 s (v .head) a os (memory nodes levels))
+  unfolding closeNoRoom followMet
+  no-room-gives p full q q-yes =
+      let k = bounded-met v s _ _ _ p (bounded-refused v s) in
+      record { gives = λ a os o. no-room-is v s a os o 3 (memory nodes levels) _ refl p (left-false v a os o full) (via q q-yes); counts = k .counts; most = k .most }
+
 -- a kind that is none of a Move is not asked
 not-true : (x : Bool) → not x ≡ true → x ≡ false
 not-true true e = cc
 not-true false e = refl
-
-not-moving : (x y : Bool) → not x ≡ true → both x y ≡ false
-unfolding both
-not-moving x y e = simp (not-true x e)
 
 -- the turn by its kind
 module _ (v : Mover) (s : Settings) (m : Memory) where
@@ -258,4 +374,4 @@ module _ (v : Mover) (s : Settings) (m : Memory) where
   pub turn-other : (r : Moved) → r ≡ refuses v s → not (both (leb 11 (kindNo (v .head .kind))) (leb (kindNo (v .head .kind)) 22)) ≡ true → GivesBy (v .head .kind) r m
   unfolding isMoving
   turn-other r a e =
-      record { gives = λ b os o. six-no v _ s b os m _ o a (not-moving _ _ e); counts = counts-refused v s a; most = most-refused v s a }
+      record { gives = λ b os o. six-no v _ s b os m _ o a (both-false-left _ (not-true _ e)); counts = counts-refused v s a; most = most-refused v s a }

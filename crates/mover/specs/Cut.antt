@@ -3,22 +3,21 @@
 use Prim.Native.Nat.{ℕ, _+_, _-_}
 use mathlib.Core.Bool.{Bool, true}
 use mathlib.Core.List.{List}
-use lib.Dec.{eqb, ltb, leb}
+use lib.Dec.{eqb, leb}
 use Rattle.words.specs.Choice.{pick, both}
 use Rattle.words.specs.Digits.{depths}
-use Rattle.settings.specs.Sizes.{maxMoves}
 use Rattle.settings.specs.declared.Settings.{Settings}
-use Rattle.areas.specs.Memory.{Memory, nodeRef, isNode, named, pixelAt, nextAt, entryCell, cellAt, setCell, levelTaken, nodeTaken, refTaken}
+use Rattle.areas.specs.Memory.{Memory, isNode, named, pixelAt, entryCell, levelTaken, refTaken}
 use Rattle.areas.specs.declared.Cell.{Cell}
 use Rattle.record.specs.declared.Kind.{Kind}
-use Rattle.record.specs.declared.Kind.the-variants.{Look, ChainNext, SetNext, SetTail, MoveEnd}
+use Rattle.record.specs.declared.Kind.the-variants.{Look, ChainHead, ChainNext, SetNext, SetTail, MoveEnd}
 use Rattle.record.specs.declared.Answer.{Answer}
 use Rattle.record.specs.declared.Answer.the-variants.{Nothing, Open}
 use Rattle.record.specs.declared.Head.{Head}
 use Rattle.record.specs.Kinds.{kindNo}
-use Rattle.rules.specs.Heads.{to, toLevel, toNode}
-use Rattle.rules.specs.Steps.{expected, more, childOf}
-use Rattle.rules.specs.Asked.{picksIn, pixelFits, readsRef, standsAt, closes}
+use Rattle.rules.specs.Heads.{to, toLevel, toNode, holdingLevel}
+use Rattle.rules.specs.Steps.{expected, peeked, more, childOf}
+use Rattle.rules.specs.Asked.{picksIn, pixelFits, setFollowsRef}
 use Rattle.mover.specs.declared.Inner.{Inner}
 use Rattle.mover.specs.declared.Mover.{Mover}
 use Rattle.mover.specs.declared.Moved.{Moved}
@@ -41,14 +40,6 @@ forgetIn v = record { home = v .home; child = v .child; count = v .count - 1; la
 -- question 6 is answered no: everything stays
 abbrev pub refuses : Mover → Settings → Moved
 refuses v s = movedOf 6 Nothing s (v .head) (v .moves) (v .inner) (v .outer)
-
--- what is given, with the memory that is left
-pub record MovedCut : Type 0 where
-  pub moved : Moved
-  pub memory : Memory
-
-abbrev pub movedCut : Moved → Memory → MovedCut
-movedCut r m = record { moved = r; memory = m }
 
 -- the key of the innermost Move and its entry in the level whose chain moves
 unfoldable pub keyCut : Mover → List ℕ → ℕ
@@ -74,12 +65,6 @@ wordAsked s v word = both (refTaken s word) (roomIn s v word)
 unfoldable pub moveEndsCut : ℕ → Settings → Mover → Memory → Bool
 moveEndsCut w s v m = both (picksHomeCut w s v m) (levelTaken s (v .inner .child))
 
-unfoldable pub moveLeftCut : ℕ → Mover → List ℕ → Bool
-moveLeftCut w v nodes = pick (expected (v .head) (nextAt nodes (v .head .node))) (ltb (v .moves) (maxMoves w)) true
-
-unfoldable pub setClosesCut : ℕ → Settings → Mover → List ℕ → Bool
-setClosesCut w s v nodes = both (closes s (v .head)) (moveLeftCut w v nodes)
-
 -- the head after the last node remembered was set, or after a chain's end: the next node, or the Move's end
 unfoldable pub lastHead : Head → Inner → Head
 lastHead h v = pick (eqb (v .count) 0) (to MoveEnd h) (toLevel SetNext (v .child) h)
@@ -98,19 +83,40 @@ metHead h c g word = pick (isNode word) (toNode SetTail (named word) c h) (toLev
 unfoldable pub followHead : ℕ → Settings → Head → ℕ → List ℕ → Head
 followHead w s h word levels = metHead h (more s (h .count)) (childOf w levels (depths w - 1) (h .level) (named word)) word
 
--- a cell is exchanged to the node remembered last
-unfoldable pub placeCut : ℕ → Kind → Mover → Settings → Cell → Memory → MovedCut
-placeCut w failed v s x m =
-    pick (expected (v .head) (cellAt w m x))
-    (movedCut (stays v s (lastHead (v .head) (forgetIn (v .inner))) (forgetIn (v .inner))) (setCell w m x (nodeRef (v .inner .last))))
-    (movedCut (stays v s (to failed (v .head)) (v .inner)) m)
+-- SetPut, SetAppend: the node remembered last is set
+abbrev pub setDone : Mover → Settings → Moved
+setDone v s = stays v s (lastHead (v .head) (forgetIn (v .inner))) (forgetIn (v .inner))
 
--- SetClose: a Move to level c - 1 has begun inside, or none where c is 0
-unfoldable pub begunCut : Mover → Settings → Head → ℕ → Moved
-begunCut v s h c =
-    pick (eqb c 0)
-    (stays v s h (v .inner))
-    (movedOf 0 Open s h (v .moves + 1) (record { home = v .head .level; child = c - 1; count = 0; last = 0 }) (v .inner .last))
+-- SetClose: a Move to the level in hand has begun inside
+abbrev pub begunCut : Mover → Settings → Moved
+begunCut v s =
+    movedOf 0 Open s (holdingLevel ChainHead 0 (v .head)) (v .moves + 1)
+    (record { home = v .head .level; child = v .head .«held_level» - 1; count = 0; last = 0 }) (v .inner .last)
+
+-- a word read, or met by a failed exchange: question 6, the rest of it asked before, then what SetLook and SetTail, SetRead, SetFollow do with it
+unfoldable pub peekMet : Bool → Mover → Settings → ℕ → Kind → Kind → Moved
+peekMet before v s word here other = pick (both before (refTaken s word)) (stays v s (peeked (v .head) word here other) (v .inner)) (refuses v s)
+
+unfoldable pub readMet : Bool → Mover → Settings → ℕ → Moved
+readMet before v s word = pick (both before (refTaken s word)) (stays v s (metHead (v .head) 1 (named word) word) (v .inner)) (refuses v s)
+
+unfoldable pub followMet : Bool → ℕ → Mover → Settings → ℕ → List ℕ → Moved
+followMet before w v s word levels =
+    pick (both before (setFollowsRef w s (v .head) word levels)) (stays v s (followHead w s (v .head) word levels) (v .inner)) (refuses v s)
+
+-- the word that an exchange met: the level that N is set into, and it is done; another, and it failed
+unfoldable pub putMet : Mover → Settings → ℕ → Moved
+putMet v s word = pick (expected (v .head) word) (setDone v s) (readMet true v s word)
+
+unfoldable pub appendMet : ℕ → Mover → Settings → ℕ → List ℕ → Moved
+appendMet w v s word levels = pick (expected (v .head) word) (setDone v s) (followMet true w v s word levels)
+
+unfoldable pub closeMet : ℕ → Mover → Settings → ℕ → List ℕ → Moved
+closeMet w v s word levels = pick (expected (v .head) word) (begunCut v s) (followMet true w v s word levels)
+
+-- SetClose where no Move more has room: done, the exchange would begin one, so it is refused
+unfoldable pub closeNoRoom : ℕ → Mover → Settings → ℕ → List ℕ → Moved
+closeNoRoom w v s word levels = pick (expected (v .head) word) (refuses v s) (followMet true w v s word levels)
 
 -- MoveEnd: one Move less
 unfoldable pub endHead : Mover → Head

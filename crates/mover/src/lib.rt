@@ -2,15 +2,15 @@
 // Relies on steps for what searching and moving do alike, on rules for the definitions.
 ghost use mathlib.Core.Path.{_≡_};
 ghost use mathlib.Core.List.{_∷_};
-ghost use Prim.Native.Nat.{_+_, _-_, _≤_};
+ghost use Prim.Native.Nat.{_+_, _-_, _≤_, _<_};
 ghost use Rattle.words.specs.Choice.{both};
 ghost use Rattle.settings.specs.Cut.{Sized};
-ghost use Rattle.areas.specs.Memory.{memory, nodeTaken};
+ghost use Rattle.areas.specs.Memory.{memory, nextAt, nodeTaken};
 ghost use Rattle.rules.specs.Heads.{lastNode};
 ghost use Rattle.rules.specs.Moving.{chainHead, chainNext, setNext, setLook, setPut, setRead, setTail, setAppend, setLevel, setClose, setFollow, moveEnd, setCellOf};
-ghost use Rattle.rules.specs.Asked.{tails, takesLevel, chainHeads, chainNexts, setNexts, setPuts, setLooks, setAppends, setCloses, setFollows, moveEnds, readsBy};
+ghost use Rattle.rules.specs.Asked.{tails, takesLevel, chainHeads, chainNexts, setNexts, standsSetting, setEntry, setPuts, setLooks, setAppends, setCloses, setFollows, moveEnds, readsBy};
 ghost use Rattle.rules.specs.Acts.{actBy};
-ghost use Rattle.mover.specs.Cut.{rememberIn, forgetIn, roomIn, stays, refuses, movedCut, keyCut, homeCut, keyFitsCut, picksHomeCut, wordAsked, moveEndsCut, moveLeftCut, setClosesCut, lastHead, wordHead, wordInner, metHead, followHead, placeCut, begunCut, endHead, ends, isMoving};
+ghost use Rattle.mover.specs.Cut.{rememberIn, forgetIn, roomIn, stays, refuses, keyCut, homeCut, keyFitsCut, picksHomeCut, wordAsked, moveEndsCut, lastHead, wordHead, wordInner, metHead, setDone, peekMet, readMet, followMet, putMet, appendMet, closeMet, closeNoRoom, begunCut, endHead, ends, isMoving};
 ghost use Rattle.mover.specs.Words.{lastAt, innerAt, outerAt, moverAt, lastTo, innerOn, headTo, innerTo, moverTo};
 ghost use Rattle.mover.specs.Moved.{Gives};
 use areas::Cell;
@@ -38,29 +38,25 @@ use record::moves_at;
 use record::worker_place;
 use settings::Settings;
 use steps::by_count;
-use steps::child_of;
-use steps::close_next;
-use steps::closes;
 use steps::counted;
-use steps::goes_back;
+use steps::exchange_from;
 use steps::holding_level;
 use steps::more;
 use steps::peeked;
 use steps::picks_in;
 use steps::pixel_fits;
-use steps::reads_ref;
 use steps::stands_at;
-use steps::tails;
+use steps::stands_with;
 use steps::take_level;
 use steps::takes_level;
 use steps::to;
 use steps::to_level;
 use steps::to_node;
+use steps::way_back;
 use words::and;
 use words::at;
 use words::copy_in;
 use words::le;
-use words::lt;
 use words::put;
 
 // Of a Move: the level whose chain moves, the level that it moves to, how many nodes it remembers, and the last of them.
@@ -164,8 +160,8 @@ fn set_nexts(s: Settings, h: Head, n: u32) -> bool
     and(node_taken(s, n), level_taken(s, h.level))
 }
 
-fn set_puts(s: Settings, h: Head, n: u32, nodes: &[u32], levels: &[u32]) -> bool
-    ensures { λ r. ⌜ r ≡ setPuts 3 s h n (memory (now (nodes .entry)) (now (levels .entry))) ⌝ }
+fn set_entry(s: Settings, h: Head, n: u32, nodes: &[u32], levels: &[u32]) -> bool
+    ensures { λ r. ⌜ r ≡ setEntry 3 s h n (memory (now (nodes .entry)) (now (levels .entry))) ⌝ }
 {
     and(picks_in(s, h.level, levels), pixel_fits(s, n, nodes))
 }
@@ -177,31 +173,10 @@ fn set_cell_of(h: Head, n: u32, nodes: &[u32], levels: &[u32]) -> Cell
     entry_cell(levels, h.level, pixel_at(nodes, n))
 }
 
-// x is that entry, which is found once a turn.
-fn set_looks(s: Settings, h: Head, n: u32, x: Cell, nodes: &[u32], levels: &[u32]) -> bool
-    requires { ⌜ x ≡ setCellOf 3 h n (memory (now nodes) (now levels)) ⌝ }
-    ensures { λ r. ⌜ r ≡ setLooks 3 s h n (memory (now (nodes .entry)) (now (levels .entry))) ⌝ }
-{
-    and(
-        set_puts(s, h, n, nodes, levels),
-        reads_ref(s, x, nodes, levels),
-    )
-}
-
-fn set_appends(s: Settings, h: Head, n: u32) -> bool
-    ensures { λ r. ⌜ r ≡ setAppends s h n ⌝ }
+fn stands_setting(s: Settings, h: Head, n: u32) -> bool
+    ensures { λ r. ⌜ r ≡ standsSetting s h n ⌝ }
 {
     and(stands_at(s, h), node_taken(s, n))
-}
-
-fn set_follows(s: Settings, h: Head, nodes: &[u32], levels: &[u32]) -> bool
-    ensures { λ r. ⌜ r ≡ setFollows 3 s h (memory (now (nodes .entry)) (now (levels .entry))) ⌝ }
-{
-    let word = next_at(nodes, h.node);
-    and(
-        tails(s, h, nodes),
-        goes_back(s.levels_taken, h.level, word, levels),
-    )
 }
 
 // From the last to the first, each node is set. Then the entry in H is written.
@@ -224,16 +199,6 @@ fn met_head(h: Head, c: u32, g: u32, word: u32) -> Head
     } else {
         to_level(Kind::SetNext, g, h)
     }
-}
-
-// A node: count + 1. A level: go back to the child of G and set N there.
-fn follow_head(s: Settings, h: Head, word: u32, levels: &[u32]) -> Head
-    requires { ⌜ s .limit ≤ 8 ⌝ }
-    ensures { λ r. ⌜ r ≡ followHead 3 s h word (now (levels .entry)) ⌝ }
-{
-    let t = named(word);
-    let g = child_of(levels, h.level, t);
-    met_head(h, more(s, h.count), g, word)
 }
 
 // The last node of the Move around Move n - 1 of worker i, 0 where there is none.
@@ -415,24 +380,6 @@ impl Mover {
         and(self.picks_home(s, nodes, levels), level_taken(s, v.child))
     }
 
-    // Where R's next would be exchanged, a Move more has room.
-    fn move_left(self, nodes: &[u32]) -> bool
-        ensures { λ r. ⌜ r ≡ moveLeftCut 3 self (now (nodes .entry)) ⌝ }
-    {
-        let h = self.head;
-        if refers_to(next_at(nodes, h.node), h.level) {
-            lt(self.moves, Settings::MAX_MOVES)
-        } else {
-            true
-        }
-    }
-
-    fn set_closes(self, s: Settings, nodes: &[u32]) -> bool
-        ensures { λ r. ⌜ r ≡ setClosesCut 3 s self (now (nodes .entry)) ⌝ }
-    {
-        and(closes(s, self.head), self.move_left(nodes))
-    }
-
     // A word read from the chain: a node is remembered, at a level the chain has ended.
     fn chain_word(self, s: Settings, word: u32) -> Moved
         requires { ⌜ self .inner .count ≤ 8 ⌝ }
@@ -449,60 +396,127 @@ impl Mover {
 
     // The node remembered last is set.
     fn set_done(self, s: Settings) -> Moved
-        ensures { λ r. ⌜ r ≡ stays self s (lastHead (self .head) (forgetIn (self .inner))) (forgetIn (self .inner)) ⌝ }
+        ensures { λ r. ⌜ r ≡ setDone self s ⌝ }
     {
         let v = forget(self.inner);
         self.stay(s, last_head(self.head, v), v)
     }
 
-    // A cell is exchanged from the level that the node remembered last is set into to that node.
-    fn place(
-        self,
-        failed: Kind,
-        s: Settings,
-        x: Cell,
-        nodes: &mut [u32],
-        levels: &mut [u32],
-    ) -> Moved
-        requires { ⌜ self .inner .last ≤ 4096 ⌝ }
-        ensures { λ r. ⌜ movedCut r (memory (now (nodes .exit)) (now (levels .exit))) ≡ placeCut 3 failed self s x (memory (now (nodes .entry)) (now (levels .entry))) ⌝ }
+    // The word that SetLook or SetTail read: question 6, `before` being what it asks besides the word, then the next kind.
+    fn peek_met(self, before: bool, s: Settings, word: u32, here: Kind, other: Kind) -> Moved
+        ensures { λ r. ⌜ r ≡ peekMet before self s word here other ⌝ }
     {
-        let h = self.head;
-        let v = self.inner;
-        if refers_to(cell_at(x, nodes, levels), h.level) {
-            set_cell(x, node_ref(v.last), nodes, levels);
-            self.set_done(s)
+        if and(before, ref_taken(s, word)) {
+            self.stay(s, peeked(self.head, word, here, other), self.inner)
         } else {
-            self.stay(s, to(failed, h), v)
+            self.refused(s)
         }
     }
 
-    // A Move to level c - 1 begins inside the innermost Move, or none where c is 0.
-    fn begun(self, s: Settings, h: Head, c: u32) -> Moved
-        requires { ⌜ self .moves ≤ 7 ⌝ }
-        ensures { λ r. ⌜ r ≡ begunCut self s h c ⌝ }
+    // The word that SetRead or a failed SetPut met: question 6, then what SetRead does with it.
+    fn read_met(self, before: bool, s: Settings, word: u32) -> Moved
+        ensures { λ r. ⌜ r ≡ readMet before self s word ⌝ }
+    {
+        if and(before, ref_taken(s, word)) {
+            self.stay(s, met_head(self.head, 1, named(word), word), self.inner)
+        } else {
+            self.refused(s)
+        }
+    }
+
+    // The word that SetFollow, or a failed SetAppend or SetClose met: question 6, then what SetFollow does with it. A node: count + 1. A level: go back to
+    // the child of G and set N there.
+    fn follow_met(self, before: bool, s: Settings, word: u32, levels: &[u32]) -> Moved
+        requires { ⌜ s .limit ≤ 8 ⌝ }
+        ensures { λ r. ⌜ r ≡ followMet before 3 self s word (now (levels .entry)) ⌝ }
+    {
+        let h = self.head;
+        let w = way_back(s.levels_taken, h.level, word, levels);
+        if and(before, and(ref_taken(s, word), w.meets)) {
+            self.stay(s, met_head(h, more(s, h.count), w.child, word), self.inner)
+        } else {
+            self.refused(s)
+        }
+    }
+
+    // The word that SetPut's exchange met. The level that N is set into: N is set. Another: as a failed SetPut.
+    fn put_met(self, s: Settings, word: u32) -> Moved
+        ensures { λ r. ⌜ r ≡ putMet self s word ⌝ }
+    {
+        let h = self.head;
+        if refers_to(word, h.level) {
+            self.set_done(s)
+        } else {
+            self.read_met(true, s, word)
+        }
+    }
+
+    // The word that SetAppend's exchange met. The level that N is set into: N is set. Another: as a failed SetAppend.
+    fn append_met(self, s: Settings, word: u32, levels: &[u32]) -> Moved
+        requires { ⌜ Sized s ⌝ }
+        ensures { λ r. ⌜ r ≡ appendMet 3 self s word (now (levels .entry)) ⌝ }
+    {
+        let h = self.head;
+        if refers_to(word, h.level) {
+            self.set_done(s)
+        } else {
+            self.follow_met(true, s, word, levels)
+        }
+    }
+
+    // A Move to the level in hand begins inside the innermost Move.
+    fn begun(self, s: Settings) -> Moved
+        requires { ⌜ self .moves < 7 ⌝ }
+        requires { ⌜ 1 ≤ self .head .«held_level» ⌝ }
+        ensures { λ r. ⌜ r ≡ begunCut self s ⌝ }
     {
         let v = self.inner;
-        let o = self.head;
-        if c == 0 {
-            self.stay(s, h, v)
-        } else {
-            Moved {
-                number: 0,
-                answer: Answer::Open,
-                settings: s,
-                mover: Mover {
-                    head: h,
-                    moves: self.moves + 1,
-                    inner: Inner {
-                        home: o.level,
-                        child: c - 1,
-                        count: 0,
-                        last: 0,
-                    },
-                    outer: v.last,
+        let h = self.head;
+        Moved {
+            number: 0,
+            answer: Answer::Open,
+            settings: s,
+            mover: Mover {
+                head: holding_level(Kind::ChainHead, 0, h),
+                moves: self.moves + 1,
+                inner: Inner {
+                    home: h.level,
+                    child: h.held_level - 1,
+                    count: 0,
+                    last: 0,
                 },
-            }
+                outer: v.last,
+            },
+        }
+    }
+
+    // The word that SetClose's exchange met. The level that N is set into: a Move inside begins. Another: as a failed SetClose.
+    fn close_met(self, s: Settings, word: u32, levels: &[u32]) -> Moved
+        requires { ⌜ Sized s ⌝ }
+        requires { ⌜ self .moves < 7 ⌝ }
+        requires { ⌜ 1 ≤ self .head .«held_level» ⌝ }
+        ensures { λ r. ⌜ r ≡ closeMet 3 self s word (now (levels .entry)) ⌝ }
+    {
+        let h = self.head;
+        if refers_to(word, h.level) {
+            self.begun(s)
+        } else {
+            self.follow_met(true, s, word, levels)
+        }
+    }
+
+    // SetClose where no Move more has room, so that the exchange may not be done: R's next is read instead. The level that N is set into: refused.
+    // Another: as a failed SetClose.
+    fn close_no_room(self, s: Settings, nodes: &[u32], levels: &[u32]) -> Moved
+        requires { ⌜ Sized s ⌝ }
+        ensures { λ r. ⌜ r ≡ closeNoRoom 3 self s (nextAt (now (nodes .entry)) (self .head .node)) (now (levels .entry)) ⌝ }
+    {
+        let h = self.head;
+        let word = next_at(nodes, h.node);
+        if refers_to(word, h.level) {
+            self.refused(s)
+        } else {
+            self.follow_met(true, s, word, levels)
         }
     }
 
@@ -591,12 +605,9 @@ impl Mover {
         let h = self.head;
         let v = self.inner;
         let x = set_cell_of(h, v.last, nodes, levels);
-        if set_looks(s, h, v.last, x, nodes, levels) {
-            let word = cell_at(x, nodes, levels);
-            self.stay(s, peeked(h, word, Kind::SetPut, Kind::SetRead), v)
-        } else {
-            self.refused(s)
-        }
+        let word = cell_at(x, nodes, levels);
+        let before = set_entry(s, h, v.last, nodes, levels);
+        self.peek_met(before, s, word, Kind::SetPut, Kind::SetRead)
     }
 
     // SetPut: exchange the entry to N.
@@ -607,9 +618,11 @@ impl Mover {
     {
         let h = self.head;
         let v = self.inner;
-        if set_puts(s, h, v.last, nodes, levels) {
+        if set_entry(s, h, v.last, nodes, levels) {
             let x = set_cell_of(h, v.last, nodes, levels);
-            self.place(Kind::SetRead, s, x, nodes, levels)
+            let n = node_ref(v.last);
+            let word = exchange_from(h.level, x, n, nodes, levels);
+            self.put_met(s, word)
         } else {
             self.refused(s)
         }
@@ -624,12 +637,8 @@ impl Mover {
         let h = self.head;
         let v = self.inner;
         let x = set_cell_of(h, v.last, nodes, levels);
-        if set_looks(s, h, v.last, x, nodes, levels) {
-            let word = cell_at(x, nodes, levels);
-            self.stay(s, met_head(h, 1, named(word), word), v)
-        } else {
-            self.refused(s)
-        }
+        let word = cell_at(x, nodes, levels);
+        self.read_met(set_entry(s, h, v.last, nodes, levels), s, word)
     }
 
     // SetTail: read R's next.
@@ -639,25 +648,23 @@ impl Mover {
         ensures { λ r. ⌜ Gives self s (memory (now (nodes .entry)) (now (levels .entry))) r (memory (now (nodes .entry)) (now (levels .entry))) (λ a os. tails s (self .head) (now (nodes .entry))) (λ a os. setTail 3 s (self .head) a os (memory (now (nodes .entry)) (now (levels .entry)))) ⌝ }
     {
         let h = self.head;
-        if tails(s, h, nodes) {
-            let k = by_count(s, h.count, Kind::SetAppend, Kind::SetLevel, Kind::SetFollow);
-            let word = next_at(nodes, h.node);
-            self.stay(s, peeked(h, word, k, Kind::SetFollow), self.inner)
-        } else {
-            self.refused(s)
-        }
+        let k = by_count(s, h.count, Kind::SetAppend, Kind::SetLevel, Kind::SetFollow);
+        let word = next_at(nodes, h.node);
+        self.peek_met(stands_at(s, h), s, word, k, Kind::SetFollow)
     }
 
     // SetAppend: exchange R's next to N.
     pub fn set_append(self, s: Settings, nodes: &mut [u32], levels: &mut [u32]) -> Moved
         requires { ⌜ Sized s ⌝ }
         requires { ⌜ self .inner .count ≤ 8 ⌝ }
-        ensures { λ r. ⌜ Gives self s (memory (now (nodes .entry)) (now (levels .entry))) r (memory (now (nodes .exit)) (now (levels .exit))) (λ a os. setAppends s (self .head) (lastNode a)) (λ a os. setAppend 3 s (self .head) a os (memory (now (nodes .entry)) (now (levels .entry)))) ⌝ }
+        ensures { λ r. ⌜ Gives self s (memory (now (nodes .entry)) (now (levels .entry))) r (memory (now (nodes .exit)) (now (levels .exit))) (λ a os. setAppends 3 s (self .head) (lastNode a) (memory (now (nodes .entry)) (now (levels .entry)))) (λ a os. setAppend 3 s (self .head) a os (memory (now (nodes .entry)) (now (levels .entry)))) ⌝ }
     {
         let h = self.head;
         let v = self.inner;
-        if set_appends(s, h, v.last) {
-            self.place(Kind::SetFollow, s, Cell::Next(h.node), nodes, levels)
+        if stands_setting(s, h, v.last) {
+            let n = node_ref(v.last);
+            let word = exchange_from(h.level, Cell::Next(h.node), n, nodes, levels);
+            self.append_met(s, word, levels)
         } else {
             self.refused(s)
         }
@@ -680,16 +687,20 @@ impl Mover {
     }
 
     // SetClose: exchange R's next to the new level; done, a Move inside this Move begins.
-    pub fn set_close(self, s: Settings, nodes: &mut [u32], levels: &[u32]) -> Moved
+    pub fn set_close(self, s: Settings, nodes: &mut [u32], levels: &mut [u32]) -> Moved
         requires { ⌜ Sized s ⌝ }
         requires { ⌜ self .inner .count ≤ 8 ⌝ }
-        requires { ⌜ self .moves ≤ 7 ⌝ }
-        ensures { λ r. ⌜ Gives self s (memory (now (nodes .entry)) (now (levels .entry))) r (memory (now (nodes .exit)) (now (levels .entry))) (λ a os. setCloses 3 s (self .head) (a ∷ os) (now (nodes .entry))) (λ a os. setClose 3 s (self .head) a os (memory (now (nodes .entry)) (now (levels .entry)))) ⌝ }
+        ensures { λ r. ⌜ Gives self s (memory (now (nodes .entry)) (now (levels .entry))) r (memory (now (nodes .exit)) (now (levels .exit))) (λ a os. setCloses 3 s (self .head) (a ∷ os) (memory (now (nodes .entry)) (now (levels .entry)))) (λ a os. setClose 3 s (self .head) a os (memory (now (nodes .entry)) (now (levels .entry)))) ⌝ }
     {
         let h = self.head;
-        if self.set_closes(s, nodes) {
-            let c = close_next(Kind::SetFollow, h, nodes);
-            self.begun(s, c.head, c.child)
+        if stands_with(s, h, h.held_level, s.levels_taken) {
+            if self.moves < Settings::MAX_MOVES {
+                let g = level_ref(h.held_level - 1);
+                let word = exchange_from(h.level, Cell::Next(h.node), g, nodes, levels);
+                self.close_met(s, word, levels)
+            } else {
+                self.close_no_room(s, nodes, levels)
+            }
         } else {
             self.refused(s)
         }
@@ -702,12 +713,8 @@ impl Mover {
         ensures { λ r. ⌜ Gives self s (memory (now (nodes .entry)) (now (levels .entry))) r (memory (now (nodes .entry)) (now (levels .entry))) (λ a os. setFollows 3 s (self .head) (memory (now (nodes .entry)) (now (levels .entry)))) (λ a os. setFollow 3 s (self .head) a os (memory (now (nodes .entry)) (now (levels .entry)))) ⌝ }
     {
         let h = self.head;
-        if set_follows(s, h, nodes, levels) {
-            let word = next_at(nodes, h.node);
-            self.stay(s, follow_head(s, h, word, levels), self.inner)
-        } else {
-            self.refused(s)
-        }
+        let word = next_at(nodes, h.node);
+        self.follow_met(stands_at(s, h), s, word, levels)
     }
 
     // MoveEnd: write the entry in H to G; this Move has ended.
@@ -732,7 +739,6 @@ impl Mover {
         requires { ⌜ Sized s ⌝ }
         requires { ⌜ self .inner .count ≤ 8 ⌝ }
         requires { ⌜ 1 ≤ self .moves ⌝ }
-        requires { ⌜ self .moves ≤ 7 ⌝ }
         ensures { λ r. ⌜ Gives self s (memory (now (nodes .entry)) (now (levels .entry))) r (memory (now (nodes .exit)) (now (levels .exit))) (λ a os. both (isMoving (self .head .kind)) (readsBy (self .head .kind) 3 s (self .head) (a ∷ os) (memory (now (nodes .entry)) (now (levels .entry))))) (λ a os. actBy (self .head .kind) 3 s (self .head) (a ∷ os) (memory (now (nodes .entry)) (now (levels .entry)))) ⌝ }
     {
         let h = self.head;

@@ -11,7 +11,7 @@ use borrow.Author.Tests.{eqb-false}
 use Rattle.words.specs.Digits.{digit}
 use Rattle.words.proofs.Choice.{pick-both}
 use Rattle.settings.specs.declared.Settings.{Settings}
-use Rattle.areas.specs.Memory.{Memory, isNode, entryCell}
+use Rattle.areas.specs.Memory.{Memory, isNode, entryCell, cellAt}
 use Rattle.areas.specs.declared.Cell.{Cell}
 use Rattle.areas.specs.declared.Cell.the-variants.{Next}
 use Rattle.record.specs.declared.Kind.{Kind}
@@ -19,13 +19,14 @@ use Rattle.record.specs.declared.Kind.the-variants.{Idle, Look, Take, Put, Read
 use Rattle.record.specs.declared.Head.{Head}
 use Rattle.record.specs.declared.Move.{Move}
 use Rattle.record.specs.Layout.{Record}
-use Rattle.rules.specs.Steps.{Step, expected, withNode, takeNode, withLevel, takeLevel, closed}
+use Rattle.rules.specs.Steps.{Step, withNode, takeNode, withLevel, takeLevel, closed}
 use Rattle.rules.specs.Searching as searching
 use Rattle.rules.specs.Moving as moving
 use Rattle.rules.specs.Acts.{actBy, act}
 use Rattle.rules.specs.Operations.{Result, recordOf, memoryOf, unlessRefused, taken, full, turn}
 use Rattle.rules.specs.Access.{Inside, Access, OneAccess}
 use Rattle.rules.specs.Access as access
+use Rattle.rules.proofs.Exchanging.{exchange-both}
 use Rattle.rules.proofs.Dims.{base-pos}
 
 -- the number of what is held, where something is
@@ -44,9 +45,9 @@ module _ (w : ℕ) (s : Settings) (h : Head) (m : Memory) where
   unfolding entryCell digit
   picked levels g p = mod-lt _ (base-pos w)
 
-  placed-by : (k : Kind) (x : Cell) → Inside w x → By (searching.placed w k s h x m)
+  placed-by : (failed : ℕ → Memory → Step) (x : Cell) → Inside w x → By (failed (cellAt w m x) m) → By (searching.placed w failed s h x m)
   unfolding searching.placed
-  placed-by k x i = pick-both By (expected h _) (λ e. access.cell x _ i refl refl) (λ e. still)
+  placed-by failed x i f = exchange-both By w h x _ _ _ m (λ e. access.cell x _ i refl refl) (λ e. f)
 
   met-by : (c g word : ℕ) → By (searching.met s h c g word m)
   unfolding searching.met searching.metNode
@@ -60,41 +61,41 @@ module _ (w : ℕ) (s : Settings) (h : Head) (m : Memory) where
   unfolding takeLevel withLevel
   level-by k ms = pick-both By (eqb (h .«held_level») 0) (λ e. access.next-level _ _ refl refl) (λ e. access.spare-level _ _ _ (held e) refl refl)
 
-  closed-by : (k : Kind) (ms : List Move) → By (closed w k s h ms m)
+  closed-by : (failed : ℕ → Memory → Step) (ms : List Move) → By (failed (cellAt w m (Next (h .node))) m) → By (closed w failed s h ms m)
   unfolding closed
-  closed-by k ms = pick-both By (expected h _) (λ e. access.cell (Next (h .node)) _ tt refl refl) (λ e. still)
+  closed-by failed ms f = exchange-both By w h (Next (h .node)) _ _ _ m (λ e. access.cell (Next (h .node)) _ tt refl refl) (λ e. f)
 
   chain-by : (v : Move) (os : List Move) (word : ℕ) → By (moving.chainWord s h v os word m)
   unfolding moving.chainWord moving.setLast
   chain-by v os word = pick-both By (isNode word) (λ e. still) (λ e. still)
 
-  set-by : (k : Kind) (v : Move) (os : List Move) (x : Cell) → Inside w x → By (moving.setNode w k s h v os x m)
+  set-by : (failed : ℕ → Memory → Step) (v : Move) (os : List Move) (x : Cell) → Inside w x → By (failed (cellAt w m x) m) → By (moving.setNode w failed s h v os x m)
   unfolding moving.setNode moving.setLast
-  set-by k v os x i = pick-both By (expected h _) (λ e. access.cell x _ i refl refl) (λ e. still)
+  set-by failed v os x i f = exchange-both By w h x _ _ _ m (λ e. access.cell x _ i refl refl) (λ e. f)
 
   kind-by : (k : Kind) (ms : List Move) → By (actBy k w s h ms m)
   unfolding actBy searching.entryOf moving.homeCell moving.setCellOf searching.look searching.take searching.put searching.read searching.readWord searching.tail searching.takeTail searching.append searching.level searching.close searching.follow searching.followWord moving.chainHead moving.chainNext moving.setNext moving.setLook moving.setPut moving.setRead moving.setReadWord moving.setMet moving.setTail moving.setAppend moving.setLevel moving.setClose moving.setFollow moving.setFollowWord moving.moveEnd
   kind-by Idle ms = still
   kind-by Look ms = still
   kind-by Take ms = take-by Put
-  kind-by Put ms = placed-by Read _ (picked _ _ _)
+  kind-by Put ms = placed-by _ _ (picked _ _ _) (met-by _ _ _)
   kind-by Read ms = met-by _ _ _
   kind-by Tail ms = still
   kind-by TakeTail ms = take-by Append
-  kind-by Append ms = placed-by Follow (Next _) tt
+  kind-by Append ms = placed-by _ (Next _) tt (met-by _ _ _)
   kind-by Level ms = level-by Close []
-  kind-by Close ms = closed-by Follow []
+  kind-by Close ms = closed-by _ [] (met-by _ _ _)
   kind-by Follow ms = met-by _ _ _
   kind-by ChainHead ms = chain-by _ _ _
   kind-by ChainNext ms = chain-by _ _ _
   kind-by SetNext ms = access.cell (Next _) _ tt refl refl
   kind-by SetLook ms = still
-  kind-by SetPut ms = set-by SetRead _ _ _ (picked _ _ _)
+  kind-by SetPut ms = set-by _ _ _ _ (picked _ _ _) still
   kind-by SetRead ms = still
   kind-by SetTail ms = still
-  kind-by SetAppend ms = set-by SetFollow _ _ (Next _) tt
+  kind-by SetAppend ms = set-by _ _ _ (Next _) tt still
   kind-by SetLevel ms = level-by SetClose _
-  kind-by SetClose ms = closed-by SetFollow _
+  kind-by SetClose ms = closed-by _ _ still
   kind-by SetFollow ms = still
   kind-by MoveEnd ms = access.cell _ _ (picked _ _ _) refl refl
   kind-by Unknown ms = still

@@ -7,18 +7,17 @@ use mathlib.Core.Bool.{true}
 use mathlib.Core.List.{List, [], _∷_}
 use lib.ListN.{length}
 use native.Mathlib.Omega.{arith}
-use Rattle.words.proofs.Choice.{pick-both, both-true}
+use Rattle.words.proofs.Choice.{both-true}
 use Rattle.settings.specs.Sizes.{levelCount}
 use Rattle.settings.specs.declared.Settings.{Settings}
 use Rattle.areas.specs.Memory.{Memory, levelRef, cellAt, setCell}
 use Rattle.areas.specs.declared.Cell.the-variants.{Next}
-use Rattle.record.specs.declared.Kind.{Kind}
 use Rattle.record.specs.declared.Kind.the-variants.{ChainHead}
 use Rattle.record.specs.declared.Move.{Move}
 use Rattle.record.specs.Layout.{Record, newMove}
-use Rattle.rules.specs.Heads.{to, holdingLevel}
-use Rattle.rules.specs.Steps.{going, expected, closed}
-use Rattle.rules.specs.Asked.{closes}
+use Rattle.rules.specs.Heads.{holdingLevel}
+use Rattle.rules.specs.Steps.{Step, going, closed}
+use Rattle.rules.specs.Asked.{standsWith}
 use Rattle.trie.proofs.Digits.{digit}
 use Rattle.trie.proofs.Update.{upd, upd-same, nxt}
 use Rattle.trie.proofs.World.{lastCell}
@@ -32,6 +31,7 @@ use Rattle.trie.proofs.Levels.{levels-close}
 use Rattle.trie.proofs.Whole.{moving, Worker, Inv, owner}
 use Rattle.trie.proofs.Turns as turns
 use Rattle.rules.proofs.Dims.{dims}
+use Rattle.rules.proofs.Exchanging.{exchange-both}
 use Rattle.rules.proofs.Matches.{Frames, more, moves, gathers}
 use Rattle.rules.proofs.Invariant.{WorldOf, keeps, At, TurnOk, goes}
 use Rattle.rules.proofs.Holding.{level-owned, level-hand-ok}
@@ -40,8 +40,8 @@ use Rattle.rules.proofs.Standing.{Standing, stands-ok, spot-cell, spot-
 use Rattle.rules.proofs.Turned.{table-with, written, still-moving}
 
 module _ {w : ℕ} {s₀ s : Settings} {m : Memory} {W : WorldOf w s₀} {ws : ℕ → Worker} {i : ℕ} {r : Record} (a : At w s₀ s m W ws i r) {P : ℕ → Type 0} {p K H R C : ℕ} (o : Standing W P (r .head) p K H (at-node R C)) {G : ℕ} (hand : ws i .level ≡ suc G) where
-  pub close-asks : closes s (r .head) ≡ true
-  unfolding closes
+  pub close-asks : standsWith s (r .head) (r .head .«held_level») (s .«levels_taken») ≡ true
+  unfolding standsWith
   close-asks = both-true (stands-ok a o) (level-hand-ok a hand)
 
   -- the Move that begins
@@ -76,10 +76,10 @@ module _ {w : ℕ} {s₀ s : Settings} {m : Memory} {W : WorldOf w s₀} {ws : �
         }
 
     -- done, or failed and going on as is given
-    pub close-turn : (k : Kind) → (word W K H (at-node R C) ≢ levelRef H → TurnOk w s₀ W ws i (going s (to k (r .head)) vs m)) → TurnOk w s₀ W ws i (closed w k s (r .head) vs m)
-    unfolding closed cellAt
-    close-turn k failed =
+    pub close-turn : (failed : ℕ → Memory → Step) → (word W K H (at-node R C) ≢ levelRef H → TurnOk w s₀ W ws i (failed (cellAt w m (Next (r .head .node))) m)) → TurnOk w s₀ W ws i (closed w failed s (r .head) vs m)
+    unfolding closed
+    close-turn failed g =
         let h : r .head .«held_level» - 1 ≡ G = omega (arith, a .matches .level-is) in
-        pick-both (TurnOk w s₀ W ws i) (expected (r .head) (cellAt w m (Next (r .head .node))))
+        exchange-both (TurnOk w s₀ W ws i) w (r .head) (Next (r .head .node)) _ _ _ m
         (λ e. subst (λ g. TurnOk w s₀ W ws i (going s (holdingLevel ChainHead 0 (r .head)) (newMove (r .head .level) g ∷ vs) (setCell w m (Next (r .head .node)) (levelRef g)))) (sym h) (close-done (here-reads a o e)))
-        (λ e. failed (other-reads a o e))
+        (λ e. g (other-reads a o e))

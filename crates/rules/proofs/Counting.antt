@@ -12,15 +12,16 @@ use borrow.Author.Tests.{eq-eqb, ne-eqb}
 use Rattle.words.specs.Choice.{pick, both}
 use Rattle.words.proofs.Choice.{pick-both, pick-true, pick-false}
 use Rattle.settings.specs.declared.Settings.{Settings}
-use Rattle.areas.specs.Memory.{Memory, isNode}
+use Rattle.areas.specs.Memory.{Memory, isNode, cellAt}
 use Rattle.areas.specs.declared.Cell.{Cell}
+use Rattle.areas.specs.declared.Cell.the-variants.{Next}
 use Rattle.record.specs.declared.Kind.{Kind}
 use Rattle.record.specs.declared.Kind.the-variants.{Idle, Look, Take, Put, Read, Tail, TakeTail, Append, Level, Close, Follow, ChainHead, ChainNext, SetNext, SetLook, SetPut, SetRead, SetTail, SetAppend, SetLevel, SetClose, SetFollow, MoveEnd, Unknown}
 use Rattle.record.specs.declared.Head.{Head}
 use Rattle.record.specs.declared.Move.{Move}
 use Rattle.record.specs.Kinds.{kindNo}
 use Rattle.record.specs.Layout.{Record}
-use Rattle.rules.specs.Steps.{Step, expected, tookNode, tookLevel, withNode, takeNode, withLevel, takeLevel, closed}
+use Rattle.rules.specs.Steps.{Step, tookNode, tookLevel, withNode, takeNode, withLevel, takeLevel, closed}
 use Rattle.rules.specs.Searching as searching
 use Rattle.rules.specs.Moving as moving
 use Rattle.rules.specs.Acts.{actBy, act}
@@ -29,6 +30,7 @@ use Rattle.rules.specs.Operations.{Result, recordOf, memoryOf, start, tu
 use Rattle.rules.specs.Lists.{State, after}
 use Rattle.rules.specs.Calls.{Event, starts, turns, happens, stateAfter}
 use Rattle.rules.specs.Demands.{takesNumber, numbersTaken}
+use Rattle.rules.proofs.Exchanging.{exchange-both}
 use Rattle.rules.proofs.Carried.{start-done}
 use Rattle.rules.proofs.OneTurn.{done-number, nine-is-full, turn-refused}
 use Rattle.rules.proofs.Refused.{refuses-start}
@@ -42,13 +44,13 @@ module _ (w : ℕ) (s : Settings) (h : Head) where
   unfolding takeLevel withLevel tookLevel
   level-same k ms m = pick-both (Same s) (eqb (h .«held_level») 0) (λ e. refl) (λ e. refl)
 
-  closed-same : (k : Kind) (ms : List Move) (m : Memory) → Same s (closed w k s h ms m)
+  closed-same : (failed : ℕ → Memory → Step) (ms : List Move) (m : Memory) → Same s (failed (cellAt w m (Next (h .node))) m) → Same s (closed w failed s h ms m)
   unfolding closed
-  closed-same k ms m = pick-both (Same s) (expected h _) (λ e. refl) (λ e. refl)
+  closed-same failed ms m f = exchange-both (Same s) w h (Next (h .node)) _ _ _ m (λ e. refl) (λ e. f)
 
-  placed-same : (k : Kind) (x : Cell) (m : Memory) → Same s (searching.placed w k s h x m)
+  placed-same : (failed : ℕ → Memory → Step) (x : Cell) (m : Memory) → Same s (failed (cellAt w m x) m) → Same s (searching.placed w failed s h x m)
   unfolding searching.placed
-  placed-same k x m = pick-both (Same s) (expected h _) (λ e. refl) (λ e. refl)
+  placed-same failed x m f = exchange-both (Same s) w h x _ _ _ m (λ e. refl) (λ e. f)
 
   met-same : (c g word : ℕ) (m : Memory) → Same s (searching.met s h c g word m)
   unfolding searching.met searching.metNode
@@ -58,9 +60,9 @@ module _ (w : ℕ) (s : Settings) (h : Head) where
   unfolding moving.chainWord moving.setLast
   chain-same v os word m = pick-both (Same s) (isNode word) (λ e. refl) (λ e. refl)
 
-  set-same : (k : Kind) (v : Move) (os : List Move) (x : Cell) (m : Memory) → Same s (moving.setNode w k s h v os x m)
+  set-same : (failed : ℕ → Memory → Step) (v : Move) (os : List Move) (x : Cell) (m : Memory) → Same s (failed (cellAt w m x) m) → Same s (moving.setNode w failed s h v os x m)
   unfolding moving.setNode moving.setLast
-  set-same k v os x m = pick-both (Same s) (expected h _) (λ e. refl) (λ e. refl)
+  set-same failed v os x m f = exchange-both (Same s) w h x _ _ _ m (λ e. refl) (λ e. f)
 
   -- Take and TakeTail with nothing held take the next number
   take-counts : (k : Kind) (m : Memory) → takeNode k s h m .settings .«nodes_taken» ≡ s .«nodes_taken» + pick (eqb (h .«held_node») 0) 1 0
@@ -79,24 +81,24 @@ module _ (w : ℕ) (s : Settings) (h : Head) where
   kind-counts Idle ms m = plus-zero refl
   kind-counts Look ms m = plus-zero refl
   kind-counts Take ms m = take-counts Put m
-  kind-counts Put ms m = plus-zero (placed-same Read _ m)
+  kind-counts Put ms m = plus-zero (placed-same _ _ m (met-same 1 _ _ m))
   kind-counts Read ms m = plus-zero (met-same 1 _ _ m)
   kind-counts Tail ms m = plus-zero refl
   kind-counts TakeTail ms m = take-counts Append m
-  kind-counts Append ms m = plus-zero (placed-same Follow _ m)
+  kind-counts Append ms m = plus-zero (placed-same _ _ m (met-same _ _ _ m))
   kind-counts Level ms m = plus-zero (level-same Close [] m)
-  kind-counts Close ms m = plus-zero (closed-same Follow [] m)
+  kind-counts Close ms m = plus-zero (closed-same _ [] m (met-same _ _ _ m))
   kind-counts Follow ms m = plus-zero (met-same _ _ _ m)
   kind-counts ChainHead ms m = plus-zero (chain-same _ _ _ m)
   kind-counts ChainNext ms m = plus-zero (chain-same _ _ _ m)
   kind-counts SetNext ms m = plus-zero refl
   kind-counts SetLook ms m = plus-zero refl
-  kind-counts SetPut ms m = plus-zero (set-same SetRead _ _ _ m)
+  kind-counts SetPut ms m = plus-zero (set-same _ _ _ _ m refl)
   kind-counts SetRead ms m = plus-zero refl
   kind-counts SetTail ms m = plus-zero refl
-  kind-counts SetAppend ms m = plus-zero (set-same SetFollow _ _ _ m)
+  kind-counts SetAppend ms m = plus-zero (set-same _ _ _ _ m refl)
   kind-counts SetLevel ms m = plus-zero (level-same SetClose _ m)
-  kind-counts SetClose ms m = plus-zero (closed-same SetFollow _ m)
+  kind-counts SetClose ms m = plus-zero (closed-same _ _ m refl)
   kind-counts SetFollow ms m = plus-zero refl
   kind-counts MoveEnd ms m = plus-zero refl
   kind-counts Unknown ms m = plus-zero refl

@@ -3,7 +3,7 @@
 use Prim.Native.Nat.{ℕ, _-_, _≤_, _<_}
 use mathlib.Core.Path.{_≡_, refl, sym, _∙_}
 use mathlib.Core.Logic.{_≢_}
-use mathlib.Core.Bool.{true, false}
+use mathlib.Core.Bool.{Bool, true, false}
 use mathlib.Core.List.{List, [], _∷_}
 use native.Mathlib.Omega.{arith}
 use lib.Dec.{eqb, leb}
@@ -13,7 +13,7 @@ use Rattle.words.proofs.Choice.{pick-both, pick-true, both-left, both-right}
 use Rattle.settings.specs.Sizes.{levelCount, question3}
 use Rattle.settings.specs.declared.Settings.{Settings}
 use Rattle.settings.proofs.Laws.{within-true}
-use Rattle.areas.specs.Memory.{Memory, isNode, nextAt, entryCell, levelTaken, nodeTaken}
+use Rattle.areas.specs.Memory.{Memory, isNode, entryCell, cellAt, levelTaken, nodeTaken}
 use Rattle.areas.specs.declared.Cell.{Cell}
 use Rattle.areas.specs.declared.Cell.the-variants.{Next}
 use Rattle.record.specs.declared.Answer.{Answer}
@@ -28,7 +28,8 @@ use Rattle.rules.specs.Steps.{Step, step, expected, tookNode, tookLevel,
 use Rattle.rules.specs.Searching as searching
 use Rattle.rules.specs.Moving as moving
 use Rattle.rules.specs.Acts.{inner, outer, actBy}
-use Rattle.rules.specs.Asked.{picksIn, spare, levelLeft, moveLeft, takes, standsAt, takesLevel, closes, puts, appends, picksHome, moveEnds, setNexts, setPuts, setAppends, setCloses, takesNode, nodeLeft, readsBy}
+use Rattle.rules.specs.Asked.{picksIn, spare, levelLeft, moveLeft, exchanges, takes, standsAt, standsSetting, standsWith, takesLevel, picksWith, puts, appends, closes, picksHome, moveEnds, setNexts, setEntry, setPuts, setAppends, setCloses, takesNode, nodeLeft, readsBy}
+use Rattle.rules.proofs.Exchanging.{exchange-both}
 use Rattle.rules.proofs.Invariant.{SameSizes}
 use Rattle.rules.proofs.ExcessWords.{same-refl, same-node, same-level, SameMemory, memory-refl, CellBelow, digit-below, same-cell}
 use Rattle.rules.proofs.ExcessRecords.{FitWords, fit-none, one-move, whole, around, pushed, remembered, forgotten}
@@ -90,16 +91,16 @@ module _ (w : ℕ) (s : Settings) (q : question3 w s ≡ true) where
     still : {a : Answer} {h′ : Head} {ms : List Move} → FitWords w ms → Leaves w s m (step a s h′ ms m)
     still = writes (memory-refl w s m)
 
-    placed-leaves : (k : Kind) (x : Cell) → CellBelow w s x → Leaves w s m (searching.placed w k s h x m)
-    unfolding searching.placed
-    placed-leaves k x b = pick-both (Leaves w s m) (expected h _) (λ e. writes (same-cell w s m x _ b) (fit-none w)) (λ e. still (fit-none w))
-
     met-leaves : (c g word : ℕ) → Leaves w s m (searching.met s h c g word m)
     unfolding searching.met searching.metNode
     met-leaves c g word =
         pick-both (Leaves w s m) (isNode word)
         (λ e. pick-both (Leaves w s m) (eqb _ (h .pixel)) (λ q. still (fit-none w)) (λ q. still (fit-none w)))
         (λ e. still (fit-none w))
+
+    placed-leaves : (failed : ℕ → Memory → Step) (x : Cell) → CellBelow w s x → Leaves w s m (failed (cellAt w m x) m) → Leaves w s m (searching.placed w failed s h x m)
+    unfolding searching.placed
+    placed-leaves failed x b f = exchange-both (Leaves w s m) w h x _ _ _ m (λ e. writes (same-cell w s m x _ b) (fit-none w)) (λ e. f)
 
     -- a node is filled
     node-leaves : (k : Kind) (s′ : Settings) (i : ℕ) → SameSizes s s′ → i < s .nodes → Leaves w s m (withNode k s′ h i m)
@@ -128,50 +129,50 @@ module _ (w : ℕ) (s : Settings) (q : question3 w s ≡ true) where
         (λ e. level-leaves k _ ms (s .«levels_taken») (sizes-level s) f (ltb-true _ _ (sym (pick-true _ _ _ e) ∙ both-right _ _ (both-right _ _ t₁))))
         (λ e. level-leaves k s ms (h .«held_level» - 1) (sizes-same s) f (spare-below e (leb-true _ _ (both-left _ _ t₁)) levels-le))
 
-    closed-leaves : (k : Kind) (ms : List Move) → closes s h ≡ true → FitWords w ms → (expected h (nextAt (m .nodes) (h .node)) ≡ true → FitWords w (newMove (h .level) (h .«held_level» - 1) ∷ ms)) → Leaves w s m (closed w k s h ms m)
-    unfolding closed closes
-    closed-leaves k ms t f g =
-        pick-both (Leaves w s m) (expected h _)
+    closed-leaves : (failed : ℕ → Memory → Step) (ms : List Move) → standsWith s h (h .«held_level») (s .«levels_taken») ≡ true → Leaves w s m (failed (cellAt w m (Next (h .node))) m) → (expected h (cellAt w m (Next (h .node))) ≡ true → FitWords w (newMove (h .level) (h .«held_level» - 1) ∷ ms)) → Leaves w s m (closed w failed s h ms m)
+    unfolding closed standsWith
+    closed-leaves failed ms t f g =
+        exchange-both (Leaves w s m) w h (Next (h .node)) _ _ _ m
         (λ e. writes (same-cell w s m (Next (h .node)) _ (stands-below h (both-left _ _ t))) (g e))
-        (λ e. still f)
+        (λ e. f)
 
     chain-leaves : (v : Move) (os : List Move) (word : ℕ) → FitWords w (v ∷ os) → Leaves w s m (moving.chainWord s h v os word m)
     unfolding moving.chainWord moving.setLast
     chain-leaves v os word f = pick-both (Leaves w s m) (isNode word) (λ e. still (remembered w _ f)) (λ e. still f)
 
-    set-leaves : (k : Kind) (v : Move) (os : List Move) (x : Cell) → CellBelow w s x → FitWords w (v ∷ os) → Leaves w s m (moving.setNode w k s h v os x m)
+    set-leaves : (failed : ℕ → Memory → Step) (v : Move) (os : List Move) (x : Cell) → CellBelow w s x → FitWords w (v ∷ os) → Leaves w s m (failed (cellAt w m x) m) → Leaves w s m (moving.setNode w failed s h v os x m)
     unfolding moving.setNode moving.setLast
-    set-leaves k v os x b f = pick-both (Leaves w s m) (expected h _) (λ e. writes (same-cell w s m x _ b) (forgotten w f)) (λ e. still f)
+    set-leaves failed v os x b f g = exchange-both (Leaves w s m) w h x _ _ _ m (λ e. writes (same-cell w s m x _ b) (forgotten w f)) (λ e. g)
 
     -- a Move inside a Move has room where the exchange would be done
-    inside : (ms : List Move) → FitWords w ms → moveLeft w h ms (m .nodes) ≡ true → expected h (nextAt (m .nodes) (h .node)) ≡ true → FitWords w (newMove (h .level) (h .«held_level» - 1) ∷ inner ms ∷ outer ms)
-    unfolding moveLeft
-    inside ms f y e = pushed w ms _ _ f (ltb-true _ _ (sym (pick-true _ _ _ e) ∙ y))
+    inside : (ms : List Move) → FitWords w ms → (asks : ℕ → Bool) → exchanges w h (Next (h .node)) (moveLeft w ms) asks m ≡ true → expected h (cellAt w m (Next (h .node))) ≡ true → FitWords w (newMove (h .level) (h .«held_level» - 1) ∷ inner ms ∷ outer ms)
+    unfolding exchanges moveLeft
+    inside ms f asks y e = pushed w ms _ _ f (ltb-true _ _ (sym (pick-true _ _ _ e) ∙ y))
 
     -- by kind
     pub kind-leaves : (k : Kind) (ms : List Move) → FitWords w ms → readsBy k w s h ms m ≡ true → pick (takesNode k) (nodeLeft s h) true ≡ true → Leaves w s m (actBy k w s h ms m)
-    unfolding actBy readsBy takesNode kindNo pick searching.look searching.take searching.put searching.entryOf searching.read searching.readWord searching.tail searching.takeTail searching.append searching.level searching.close searching.follow searching.followWord moving.chainHead moving.chainNext moving.setNext moving.setLook moving.setPut moving.setCellOf moving.setRead moving.setReadWord moving.setMet moving.setTail moving.setAppend moving.setLevel moving.setClose moving.setFollow moving.setFollowWord moving.moveEnd moving.homeCell puts appends setNexts setPuts setAppends setCloses moveEnds picksHome
+    unfolding actBy readsBy takesNode kindNo pick searching.look searching.take searching.put searching.entryOf searching.read searching.readWord searching.tail searching.takeTail searching.append searching.level searching.close searching.follow searching.followWord moving.chainHead moving.chainNext moving.setNext moving.setLook moving.setPut moving.setCellOf moving.setRead moving.setReadWord moving.setMet moving.setTail moving.setAppend moving.setLevel moving.setClose moving.setFollow moving.setFollowWord moving.moveEnd moving.homeCell puts picksWith appends closes standsWith standsSetting setNexts setEntry setPuts setAppends setCloses moveEnds picksHome
     kind-leaves Idle ms f y n = still f
     kind-leaves Look ms f y n = still (fit-none w)
     kind-leaves Take ms f y n = take-leaves Put y n
-    kind-leaves Put ms f y n = placed-leaves Read _ (entry-below _ _ _ (both-left _ _ y))
+    kind-leaves Put ms f y n = placed-leaves _ _ (entry-below _ _ _ (both-left _ _ (both-left _ _ y))) (met-leaves _ _ _)
     kind-leaves Read ms f y n = met-leaves _ _ _
     kind-leaves Tail ms f y n = still (fit-none w)
     kind-leaves TakeTail ms f y n = take-leaves Append y n
-    kind-leaves Append ms f y n = placed-leaves Follow (Next (h .node)) (stands-below h (both-left _ _ y))
+    kind-leaves Append ms f y n = placed-leaves _ (Next (h .node)) (stands-below h (both-left _ _ (both-left _ _ y))) (met-leaves _ _ _)
     kind-leaves Level ms f y n = take-level-leaves Close [] (fit-none w) y
-    kind-leaves Close ms f y n = closed-leaves Follow [] y (fit-none w) (λ e. one-move w _ _)
+    kind-leaves Close ms f y n = closed-leaves _ [] (both-left _ _ y) (met-leaves _ _ _) (λ e. one-move w _ _)
     kind-leaves Follow ms f y n = met-leaves _ _ _
     kind-leaves ChainHead ms f y n = chain-leaves _ _ _ (whole w ms f)
     kind-leaves ChainNext ms f y n = chain-leaves _ _ _ (whole w ms f)
     kind-leaves SetNext ms f y n = writes (same-cell w s m (Next (lastNode (inner ms))) _ (node-below (both-left _ _ y))) (whole w ms f)
     kind-leaves SetLook ms f y n = still (whole w ms f)
-    kind-leaves SetPut ms f y n = set-leaves SetRead _ _ _ (entry-below _ _ _ (both-left _ _ y)) (whole w ms f)
+    kind-leaves SetPut ms f y n = set-leaves _ _ _ _ (entry-below _ _ _ (both-left _ _ (both-left _ _ y))) (whole w ms f) (still (whole w ms f))
     kind-leaves SetRead ms f y n = still (whole w ms f)
     kind-leaves SetTail ms f y n = still (whole w ms f)
-    kind-leaves SetAppend ms f y n = set-leaves SetFollow _ _ (Next (h .node)) (stands-below h (both-left _ _ y)) (whole w ms f)
+    kind-leaves SetAppend ms f y n = set-leaves _ _ _ (Next (h .node)) (stands-below h (both-left _ _ (both-left _ _ y))) (whole w ms f) (still (whole w ms f))
     kind-leaves SetLevel ms f y n = take-level-leaves SetClose _ (whole w ms f) y
-    kind-leaves SetClose ms f y n = closed-leaves SetFollow _ (both-left _ _ y) (whole w ms f) (inside ms f (both-right _ _ y))
+    kind-leaves SetClose ms f y n = closed-leaves _ _ (both-left _ _ y) (still (whole w ms f)) (inside ms f _ (both-right _ _ y))
     kind-leaves SetFollow ms f y n = still (whole w ms f)
     kind-leaves MoveEnd ms f y n = writes (same-cell w s m _ _ (entry-below _ _ _ (both-left _ _ (both-left _ _ y)))) (around w ms f)
     kind-leaves Unknown ms f y n = still f

@@ -8,6 +8,8 @@ pub mod Visits
 pub mod ManyTurns
 pub mod Refused
 pub mod Dims
+pub mod Exchanging
+pub mod FailedExchange
 pub mod FilledLevels
 pub mod Words
 pub mod Matches

@@ -9,35 +9,35 @@ use native.Mathlib.Omega.{arith}
 use lib.ListN.{length}
 use borrow.Author.Tests.{lt-ltb}
 use Rattle.words.specs.Digits.{depths}
-use Rattle.words.proofs.Choice.{pick-both, both-true}
+use Rattle.words.proofs.Choice.{both-true}
 use Rattle.settings.specs.Sizes.{levelCount, maxMoves}
 use Rattle.settings.specs.declared.Settings.{Settings}
-use Rattle.areas.specs.Memory.{Memory, nextAt}
-use Rattle.record.specs.declared.Kind.the-variants.{SetLevel, SetClose, SetFollow}
+use Rattle.areas.specs.Memory.{Memory, cellAt}
+use Rattle.record.specs.declared.Kind.the-variants.{SetLevel, SetClose}
 use Rattle.record.specs.declared.Head.{Head}
 use Rattle.record.specs.declared.Move.{Move}
 use Rattle.record.specs.Layout.{record′}
 use Rattle.rules.specs.Heads.{holdingLevel}
-use Rattle.rules.specs.Steps.{expected}
 use Rattle.rules.specs.Moving.{setLevel, setClose}
 use Rattle.rules.specs.Acts.{inner, outer, actBy}
 use Rattle.rules.specs.Asked.{moveLeft, setCloses, readsBy}
 use Rattle.trie.proofs.Tree.{inside-depth}
 use Rattle.trie.proofs.Stand.{at-node}
-use Rattle.trie.proofs.Search.{Phase, again, level, shut, Blank}
+use Rattle.trie.proofs.Search.{Phase, level, shut, Blank}
 use Rattle.trie.proofs.Move.{Frame, set, set-levels, set-shuts, frames-le, frame-depth}
 use Rattle.trie.proofs.MoveTurns.{shut-can}
-use Rattle.trie.proofs.Falls.{later}
 use Rattle.trie.proofs.MoveFalls.{set-level-falls}
 use Rattle.trie.proofs.Whole.{Worker, moving, owner}
 use Rattle.trie.proofs.Turns.{set-level-turn, set-shut-turn}
 use Rattle.rules.proofs.Matches.{Doing, moves, sets, shuts, more}
 use Rattle.rules.proofs.Invariant.{WorldOf, At, TurnOk}
+use Rattle.rules.proofs.Standing.{exchanges-ok}
 use Rattle.rules.proofs.Turned.{still-moving, place-as}
 use Rattle.rules.proofs.TakingLevel as taking
 use Rattle.rules.proofs.Closing as closing
 use Rattle.rules.proofs.MoveRecords.{frames-length}
-use Rattle.rules.proofs.Setter.{Setter, standing, sets-by, acts-by, goes-again}
+use Rattle.rules.proofs.Setter.{Setter, standing, sets-by, acts-by}
+use Rattle.rules.proofs.MoveSetAgain.{follows-ok, follow-ok}
 
 module _ {w : ℕ} {s₀ s : Settings} {m : Memory} {W : WorldOf w s₀} {ws : ℕ → Worker} {i : ℕ} {h : Head} {v : Move} {os : List Move} {a : At w s₀ s m W ws i (record′ h (v ∷ os))} {f : Frame} {fs : List Frame} {N T R C : ℕ} {p : Phase} (o : Setter a f fs N p T (at-node R C)) (full : C ≡ s₀ .limit) (deep : suc (W .tree .depth T) < depths w) where
   pub level-asks : readsBy SetLevel w s h (v ∷ os) m ≡ true
@@ -71,15 +71,14 @@ module _ {w : ℕ} {s₀ s : Settings} {m : Memory} {W : WorldOf w s₀} {ws : �
         omega arith
 
     pub close-asks : readsBy SetClose w s h (v ∷ os) m ≡ true
-    unfolding readsBy setCloses moveLeft
+    unfolding readsBy setCloses moveLeft cellAt
     close-asks =
-        both-true (closing.close-asks a (standing o) hand)
-        (pick-both (λ q. q ≡ true) (expected h (nextAt (m .nodes) (h .node))) (λ q. lt-ltb (length (v ∷ os)) (maxMoves w) one-inside) (λ q. refl))
+        both-true (closing.close-asks a (standing o) hand) (exchanges-ok a (standing o) _ _ (lt-ltb (length (v ∷ os)) (maxMoves w) one-inside) (follows-ok o))
 
-    pub close-turn : p ≡ shut T (at-node R C) M → TurnOk w s₀ W ws i (actBy SetClose w s h (v ∷ os) m)
-    unfolding actBy setClose inner outer
-    close-turn z =
+    pub close-turn : TurnOk w s₀ W ws i (actBy SetClose w s h (v ∷ os) m)
+    unfolding actBy setClose inner outer cellAt
+    close-turn =
         closing.close-turn a (standing o) hand (more (o .on) (o .around-on))
         (λ q. shut-can (a .inv .structure) {v = owner i} (λ y. omega arith) (o .setting) full deep blank q)
         (λ q. set-shut-turn (a .inv) i (acts-by o (sets-by o (set-shuts (o .setting) full deep blank))) hand q)
-        SetFollow (goes-again o (rw z (later W (shut T (at-node R C) M) (again T (at-node R C)) refl refl (omega arith))))
+        _ (follow-ok o)

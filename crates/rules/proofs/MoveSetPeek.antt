@@ -31,12 +31,12 @@ use Rattle.rules.proofs.Invariant.{WorldOf, At, TurnOk}
 use Rattle.rules.proofs.Standing.{stands-ok, spot-ok, here-reads, other-reads, by-count}
 use Rattle.rules.proofs.Turned.{limit-pos}
 use Rattle.rules.proofs.MoveOn.{next-set}
-use Rattle.rules.proofs.Setter.{Setter, standing, puts-ok, sets-by, goes-on, goes-again}
+use Rattle.rules.proofs.Setter.{Setter, standing, entry-ok, sets-by, goes-on, goes-again}
 
 module _ {w : ℕ} {s₀ s : Settings} {m : Memory} {W : WorldOf w s₀} {ws : ℕ → Worker} {i : ℕ} {h : Head} {v : Move} {os : List Move} {a : At w s₀ s m W ws i (record′ h (v ∷ os))} {f : Frame} {fs : List Frame} {N T : ℕ} where
   pub peek-asks : (x : Pos) → Setter a f fs N (peek T x) T x → readsBy (byPos SetLook SetTail x) w s h (v ∷ os) m ≡ true
   unfolding readsBy setLooks tails readsRef cellAt setCellOf inner
-  peek-asks at-entry o = both-true (puts-ok o) (spot-ok a (standing o))
+  peek-asks at-entry o = both-true (entry-ok o) (spot-ok a (standing o))
   peek-asks (at-node R C) o = both-true (stands-ok a (standing o)) (spot-ok a (standing o))
 
   rereads : {x : Pos} → Setter a f fs N (peek T x) T x → phase W (again T x) < phase W (peek T x)

@@ -1,50 +1,56 @@
--- SetPut and SetAppend: the node is exchanged into the cell; done, the node before it is set next or the Move ends; failed, the cell is read again.
+-- SetPut and SetAppend: the node is exchanged into the cell; done, the node before it is set next or the Move ends; failed, the word met is acted on as SetRead and SetFollow do.
 -- Relies on a worker that sets a node, and on the theory's step.
 use Prim.Native.Nat.{ℕ, _<_}
 use mathlib.Core.Path.{_≡_, refl, sym, ap, _∙_}
+use mathlib.Core.Logic.{_≢_}
 use mathlib.Core.Bool.{true}
 use mathlib.Core.List.{List, _∷_}
 use native.Mathlib.Omega.{arith}
 use lib.ListN.{length}
-use Rattle.words.proofs.Choice.{pick-both, both-true}
+use Rattle.words.proofs.Choice.{both-true}
 use Rattle.settings.specs.Sizes.{levelCount}
 use Rattle.settings.specs.declared.Settings.{Settings}
 use Rattle.areas.specs.Memory.{Memory, levelRef, nodeRef, pixelAt, cellAt, setCell, nodeTaken}
-use Rattle.record.specs.declared.Kind.the-variants.{SetPut, SetRead, SetAppend, SetFollow}
+use Rattle.record.specs.declared.Kind.the-variants.{SetPut, SetAppend}
 use Rattle.record.specs.declared.Head.{Head}
 use Rattle.record.specs.declared.Move.{Move}
 use Rattle.record.specs.Layout.{record′}
 use Rattle.rules.specs.Heads.{lastNode, forget}
-use Rattle.rules.specs.Steps.{going, expected}
+use Rattle.rules.specs.Steps as steps
+use Rattle.rules.specs.Steps.{going}
 use Rattle.rules.specs.Moving.{setCellOf, setLast, setNode, setPut, setAppend}
 use Rattle.rules.specs.Acts.{inner, outer, actBy}
-use Rattle.rules.specs.Asked.{setAppends, readsBy}
+use Rattle.rules.specs.Asked.{readsRef, standsSetting, setPuts, setAppends, readsBy}
 use Rattle.trie.proofs.Digits.{digit}
 use Rattle.trie.proofs.World.{lastCell, Structure}
 use Rattle.trie.proofs.Stand.{Pos, at-entry, at-node, cellOf, passed}
-use Rattle.trie.proofs.Search.{put, again, word}
+use Rattle.trie.proofs.Search.{put, word}
 use Rattle.trie.proofs.Move.{Frame, edge, Step, Moving, set, aims}
 use Rattle.trie.proofs.MoveTurns.{withNodes, AfterMove, emptied, next-one, put-can, put-moved}
 use Rattle.trie.proofs.MoveOne.{moveOne, CanMove, move-grows}
-use Rattle.trie.proofs.Falls.{Falls, later}
+use Rattle.trie.proofs.Falls.{Falls}
 use Rattle.trie.proofs.MoveFalls.{put-falls, last-falls}
 use Rattle.trie.proofs.Turns.{put-step}
 use Rattle.trie.proofs.Whole.{Worker, is-moving, moving, owner}
 use Rattle.rules.proofs.Dims.{dims}
+use Rattle.rules.proofs.Exchanging.{exchange-both}
 use Rattle.rules.proofs.Matches.{byPos, Framed, more}
 use Rattle.rules.proofs.Invariant.{WorldOf, Table, At, TurnOk}
 use Rattle.rules.proofs.Reading.{not-free, node-taken}
-use Rattle.rules.proofs.Standing.{spot, stands-ok, spot-cell, spot-taken, here-reads, other-reads, ends-here}
+use Rattle.rules.proofs.Standing.{spot, stands-ok, spot-cell, spot-taken, spot-ok, here-reads, other-reads, exchanges-ok, ends-here}
 use Rattle.rules.proofs.Turned.{table-with, written}
 use Rattle.rules.proofs.MoveRecords.{framed-count, last-count, framed-forget}
 use Rattle.rules.proofs.MoveOn.{Next, next-aim, next-end, last-aims, last-ends, moves-on}
-use Rattle.rules.proofs.Setter.{Setter, node-placed, node-last, standing, puts-ok, goes-again}
+use Rattle.rules.proofs.Setter.{Setter, node-placed, node-last, standing, entry-ok}
+use Rattle.rules.proofs.MoveSetAgain.{follows-ok, read-ok, follow-ok}
 
 module _ {w : ℕ} {s₀ s : Settings} {m : Memory} {W : WorldOf w s₀} {ws : ℕ → Worker} {i : ℕ} {h : Head} {v : Move} {os : List Move} {a : At w s₀ s m W ws i (record′ h (v ∷ os))} {f : Frame} {fs : List Frame} {N M T : ℕ} where
   pub put-asks : (x : Pos) → Setter a f fs N (put T x M) T x → readsBy (byPos SetPut SetAppend x) w s h (v ∷ os) m ≡ true
-  unfolding readsBy setAppends inner
-  put-asks at-entry o = puts-ok o
-  put-asks (at-node R C) o = both-true (stands-ok a (standing o)) (ap (nodeTaken s) (node-last o) ∙ node-taken (a .table) N (not-free (node-placed o)))
+  unfolding readsBy setPuts setAppends standsSetting readsRef cellAt setCellOf inner
+  put-asks at-entry o = both-true (entry-ok o) (exchanges-ok a (standing o) _ _ refl (λ y. spot-ok a (standing o)))
+  put-asks (at-node R C) o =
+      both-true (both-true (stands-ok a (standing o)) (ap (nodeTaken s) (node-last o) ∙ node-taken (a .table) N (not-free (node-placed o))))
+      (exchanges-ok a (standing o) _ _ refl (follows-ok o))
 
   -- the exchange is done
   put-done : {x : Pos} (o : Setter a f fs N (put T x M) T x) → passed x < s₀ .limit → word W (W .pixel N) T x ≡ levelRef T → TurnOk w s₀ W ws i (setLast s h (forget v) os (setCell w m (spot w h (pixelAt (m .nodes) (lastNode v)) (m .levels) x) (nodeRef (lastNode v))))
@@ -85,14 +91,14 @@ module _ {w : ℕ} {s₀ s : Settings} {m : Memory} {W : WorldOf w s₀} {ws : �
           rw (last-aims s h (forget v) os m′ (λ q. omega arith)) (on-to (put-falls S (levelCount w s₀) (o .frame) (o .around) (o .pre) (o .nodes-are) can) (aims pre′ k n p j c) (next-aim (forget v .child) (less .child-is)))
 
   -- done or failed
-  put-either : {x : Pos} (o : Setter a f fs N (put T x M) T x) → passed x < s₀ .limit → TurnOk w s₀ W ws i (setNode w (byPos SetRead SetFollow x) s h v os (spot w h (pixelAt (m .nodes) (lastNode v)) (m .levels) x) m)
+  put-either : {x : Pos} (failed : ℕ → Memory → steps.Step) (o : Setter a f fs N (put T x M) T x) → passed x < s₀ .limit → (word W (W .pixel N) T x ≢ levelRef T → TurnOk w s₀ W ws i (failed (cellAt w m (spot w h (pixelAt (m .nodes) (lastNode v)) (m .levels) x)) m)) → TurnOk w s₀ W ws i (setNode w failed s h v os (spot w h (pixelAt (m .nodes) (lastNode v)) (m .levels) x) m)
   unfolding setNode
-  put-either {x} o y =
-      pick-both (TurnOk w s₀ W ws i) (expected h (cellAt w m (spot w h (pixelAt (m .nodes) (lastNode v)) (m .levels) x)))
+  put-either {x} failed o y g =
+      exchange-both (TurnOk w s₀ W ws i) w h (spot w h (pixelAt (m .nodes) (lastNode v)) (m .levels) x) _ _ _ m
       (λ e. put-done o y (here-reads a (standing o) e))
-      (λ e. goes-again o (later W (put T x M) (again T x) refl refl (omega arith)) (other-reads a (standing o) e))
+      (λ e. g (other-reads a (standing o) e))
 
   pub put-turn : (x : Pos) (o : Setter a f fs N (put T x M) T x) → passed x < s₀ .limit → TurnOk w s₀ W ws i (actBy (byPos SetPut SetAppend x) w s h (v ∷ os) m)
-  unfolding actBy setPut setAppend setCellOf inner outer
-  put-turn at-entry o y = put-either o y
-  put-turn (at-node R C) o y = put-either o y
+  unfolding actBy setPut setAppend setCellOf inner outer cellAt
+  put-turn at-entry o y = put-either _ o y (read-ok o)
+  put-turn (at-node R C) o y = put-either _ o y (follow-ok o)

@@ -14,8 +14,9 @@ use Rattle.words.specs.Digits.{pixelNumber}
 use Rattle.words.proofs.Choice.{pick-both, pick-true, pick-false, both-left, both-right}
 use Rattle.settings.specs.Sizes.{question1}
 use Rattle.settings.specs.declared.Settings.{Settings}
-use Rattle.areas.specs.Memory.{Memory, isNode}
+use Rattle.areas.specs.Memory.{Memory, isNode, cellAt}
 use Rattle.areas.specs.declared.Cell.{Cell}
+use Rattle.areas.specs.declared.Cell.the-variants.{Next}
 use Rattle.record.specs.declared.Answer.the-variants.{Open}
 use Rattle.record.specs.declared.Kind.{Kind}
 use Rattle.record.specs.declared.Kind.the-variants.{Idle, Look, Take, Put, Read, Tail, TakeTail, Append, Level, Close, Follow, ChainHead, ChainNext, SetNext, SetLook, SetPut, SetRead, SetTail, SetAppend, SetLevel, SetClose, SetFollow, MoveEnd, Unknown}
@@ -25,7 +26,7 @@ use Rattle.record.specs.declared.Reply.{Reply}
 use Rattle.record.specs.Kinds.{kindNo, answerOf}
 use Rattle.record.specs.Layout.{Record}
 use Rattle.rules.specs.Heads.{to, toLevel, toNode, holdingNode, holdingLevel, started, ended}
-use Rattle.rules.specs.Steps.{Step, expected, peeked, withNode, takeNode, withLevel, takeLevel, closed}
+use Rattle.rules.specs.Steps.{Step, peeked, withNode, takeNode, withLevel, takeLevel, closed}
 use Rattle.rules.specs.Searching as searching
 use Rattle.rules.specs.Moving as moving
 use Rattle.rules.specs.Acts.{actBy, act}
@@ -35,6 +36,7 @@ use Rattle.rules.specs.Lists.{State, after}
 use Rattle.rules.specs.Calls.{Event, starts, turns, happens, history, stateAfter, Call, Opened}
 use Rattle.rules.specs.LastAnswers.{told}
 use Rattle.rules.specs.OpenCalls.{pixelBy, pixelTold, OpenCalls}
+use Rattle.rules.proofs.Exchanging.{exchange-both}
 use Rattle.rules.proofs.Dims.{Width, width-3}
 use Rattle.rules.proofs.Carried.{opening-done, start-done}
 use Rattle.rules.proofs.OneTurn.{done-number, nine-is-full, turn-refused, refuses-turn}
@@ -49,9 +51,9 @@ module _ (w : ℕ) (s : Settings) (h : Head) (m : Memory) where
   abbrev Keeps : Step → Type 0
   Keeps t = t .record′ .head .pixel ≡ h .pixel
 
-  placed-keeps : (k : Kind) (x : Cell) → Keeps (searching.placed w k s h x m)
-  unfolding searching.placed ended to
-  placed-keeps k x = pick-both Keeps (expected h _) (λ e. refl) (λ e. refl)
+  placed-keeps : (failed : ℕ → Memory → Step) (x : Cell) → Keeps (failed (cellAt w m x) m) → Keeps (searching.placed w failed s h x m)
+  unfolding searching.placed ended
+  placed-keeps failed x f = exchange-both Keeps w h x _ _ _ m (λ e. refl) (λ e. f)
 
   met-keeps : (c g word : ℕ) → Keeps (searching.met s h c g word m)
   unfolding searching.met searching.metNode ended toNode toLevel
@@ -65,9 +67,9 @@ module _ (w : ℕ) (s : Settings) (h : Head) (m : Memory) where
   unfolding takeLevel withLevel holdingLevel
   level-keeps k ms = pick-both Keeps (eqb (h .«held_level») 0) (λ e. refl) (λ e. refl)
 
-  closed-keeps : (k : Kind) (ms : List Move) → Keeps (closed w k s h ms m)
-  unfolding closed holdingLevel to
-  closed-keeps k ms = pick-both Keeps (expected h _) (λ e. refl) (λ e. refl)
+  closed-keeps : (failed : ℕ → Memory → Step) (ms : List Move) → Keeps (failed (cellAt w m (Next (h .node))) m) → Keeps (closed w failed s h ms m)
+  unfolding closed holdingLevel
+  closed-keeps failed ms f = exchange-both Keeps w h (Next (h .node)) _ _ _ m (λ e. refl) (λ e. f)
 
   last-keeps : (v : Move) (os : List Move) (m′ : Memory) → Keeps (moving.setLast s h v os m′)
   unfolding moving.setLast to toLevel
@@ -81,9 +83,9 @@ module _ (w : ℕ) (s : Settings) (h : Head) (m : Memory) where
   unfolding moving.setMet toNode toLevel
   again-keeps v os c g word = pick-both (λ (x : Head). x .pixel ≡ h .pixel) (isNode word) (λ e. refl) (λ e. refl)
 
-  set-keeps : (k : Kind) (v : Move) (os : List Move) (x : Cell) → Keeps (moving.setNode w k s h v os x m)
-  unfolding moving.setNode to
-  set-keeps k v os x = pick-both Keeps (expected h _) (λ e. last-keeps _ os _) (λ e. refl)
+  set-keeps : (failed : ℕ → Memory → Step) (v : Move) (os : List Move) (x : Cell) → Keeps (failed (cellAt w m x) m) → Keeps (moving.setNode w failed s h v os x m)
+  unfolding moving.setNode
+  set-keeps failed v os x f = exchange-both Keeps w h x _ _ _ m (λ e. last-keeps _ os _) (λ e. f)
 
   after-keeps : (g : ℕ) (os : List Move) → moving.afterMove h g os .pixel ≡ h .pixel
   unfolding moving.afterMove toLevel
@@ -95,24 +97,24 @@ module _ (w : ℕ) (s : Settings) (h : Head) (m : Memory) where
   kind-keeps Idle ms = refl
   kind-keeps Look ms = refl
   kind-keeps Take ms = take-keeps Put
-  kind-keeps Put ms = placed-keeps Read _
+  kind-keeps Put ms = placed-keeps _ _ (met-keeps _ _ _)
   kind-keeps Read ms = met-keeps _ _ _
   kind-keeps Tail ms = refl
   kind-keeps TakeTail ms = take-keeps Append
-  kind-keeps Append ms = placed-keeps Follow _
+  kind-keeps Append ms = placed-keeps _ _ (met-keeps _ _ _)
   kind-keeps Level ms = level-keeps Close []
-  kind-keeps Close ms = closed-keeps Follow []
+  kind-keeps Close ms = closed-keeps _ [] (met-keeps _ _ _)
   kind-keeps Follow ms = met-keeps _ _ _
   kind-keeps ChainHead ms = chain-keeps _ _ _
   kind-keeps ChainNext ms = chain-keeps _ _ _
   kind-keeps SetNext ms = refl
   kind-keeps SetLook ms = refl
-  kind-keeps SetPut ms = set-keeps SetRead _ _ _
+  kind-keeps SetPut ms = set-keeps _ _ _ _ (again-keeps _ _ _ _ _)
   kind-keeps SetRead ms = again-keeps _ _ _ _ _
   kind-keeps SetTail ms = refl
-  kind-keeps SetAppend ms = set-keeps SetFollow _ _ _
+  kind-keeps SetAppend ms = set-keeps _ _ _ _ (again-keeps _ _ _ _ _)
   kind-keeps SetLevel ms = level-keeps SetClose _
-  kind-keeps SetClose ms = closed-keeps SetFollow _
+  kind-keeps SetClose ms = closed-keeps _ _ (again-keeps _ _ _ _ _)
   kind-keeps SetFollow ms = again-keeps _ _ _ _ _
   kind-keeps MoveEnd ms = after-keeps _ _
   kind-keeps Unknown ms = refl

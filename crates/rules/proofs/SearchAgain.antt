@@ -1,4 +1,4 @@
--- Read and Follow: question 6 holds, and what they do with the word that they met is what the theory makes of it.
+-- Read, Follow, and a failed Put, Append or Close: question 6 holds of the word met, and what is done with it is what the theory makes of it.
 -- Relies on a worker that searches, on what it does where it reads again, and on the theory's next clause of a reading.
 use Prim.Native.Nat.{ℕ, _<_}
 use mathlib.Core.Path.{_≡_, refl, sym, ap, subst, _∙_}
@@ -9,7 +9,7 @@ use native.Mathlib.Omega.{arith}
 use borrow.Author.Tests.{eq-eqb, ne-eqb}
 use Rattle.words.proofs.Choice.{pick-true, pick-false, both-true}
 use Rattle.settings.specs.declared.Settings.{Settings}
-use Rattle.areas.specs.Memory.{Memory, levelRef, nodeRef, named, pixelAt, cellAt, levelTaken}
+use Rattle.areas.specs.Memory.{Memory, levelRef, nodeRef, named, pixelAt, nextAt, cellAt, levelTaken}
 use Rattle.record.specs.declared.Kind.the-variants.{Look, Tail}
 use Rattle.record.specs.declared.Answer.the-variants.{Found}
 use Rattle.record.specs.declared.Head.{Head}
@@ -25,7 +25,7 @@ use Rattle.trie.proofs.World.{Placed, Other}
 use Rattle.trie.proofs.Evolve.{grows-refl}
 use Rattle.trie.proofs.Stand as theory
 use Rattle.trie.proofs.Stand.{Pos, at-entry, at-node, passed, Met, met-node, met-level}
-use Rattle.trie.proofs.Search.{again, peek, Local, reads, word, Next, found, onward, down, reads-next}
+use Rattle.trie.proofs.Search.{Phase, again, peek, Local, reads, word, Next, found, onward, down, reads-next}
 use Rattle.trie.proofs.Measure.{phase}
 use Rattle.trie.proofs.Falls.{onward-less, down-less}
 use Rattle.trie.proofs.Levels.{levels-stay}
@@ -49,13 +49,10 @@ met-a-level : (s : Settings) (h : Head) (c g t : ℕ) (m : Memory) → spec.met 
 unfolding spec.met
 met-a-level s h c g t m = pick-false _ _ _ (level-ref t)
 
-module _ {w : ℕ} {s₀ s : Settings} {m : Memory} {W : WorldOf w s₀} {ws : ℕ → Worker} {i : ℕ} {r : Record} {a : At w s₀ s m W ws i r} {H : ℕ} {x : Pos} (o : Searcher a (again H x) H x) where
-  not-H : Local W (owner i) (ws i .key) (ws i .since) (again H x) → word W (ws i .key) H x ≢ levelRef H
-  not-H (reads k n) = n
-
-  compares-ok : Local W (owner i) (ws i .key) (ws i .since) (again H x) → asked.comparesRef s (cellAt w m (spot w (r .head) (r .head .pixel) (m .levels) x)) (m .nodes) ≡ true
+module _ {w : ℕ} {s₀ s : Settings} {m : Memory} {W : WorldOf w s₀} {ws : ℕ → Worker} {i : ℕ} {r : Record} {a : At w s₀ s m W ws i r} {p : Phase} {H : ℕ} {x : Pos} (o : Searcher a p H x) where
+  pub compares-ok : word W (ws i .key) H x ≢ levelRef H → asked.comparesRef s (cellAt w m (spot w (r .head) (r .head .pixel) (m .levels) x)) (m .nodes) ≡ true
   unfolding asked.comparesRef
-  compares-ok l = ap (λ v. asked.comparesRef s v (m .nodes)) (spot-reads a (standing o)) ∙ by (leads-on a (standing o) (not-H l))
+  compares-ok y = ap (λ v. asked.comparesRef s v (m .nodes)) (spot-reads a (standing o)) ∙ by (leads-on a (standing o) y)
     where
       by : Met W (Other W (ws i .key)) H (digit (dims w (s₀ .limit)) (ws i .key) (W .tree .depth H)) x (word W (ws i .key) H x) → asked.comparesRef s (word W (ws i .key) H x) (m .nodes) ≡ true
       by (met-node R q p f) = ap (λ v. asked.comparesRef s v (m .nodes)) q ∙ pick-true _ _ _ (node-ref R) ∙ ap (λ j. asked.pixelFits s j (m .nodes)) (named-node R) ∙ pixel-fits (a .table) (a .inv .structure) R p
@@ -83,17 +80,17 @@ module _ {w : ℕ} {s₀ s : Settings} {m : Memory} {W : WorldOf w s₀} {ws : �
   -- another node
   goes-onward : (R c : ℕ) → phase W (peek H (at-node R (theory.more (dims w (s₀ .limit)) (passed x)))) < phase W (again H x) → c ≡ theory.more (dims w (s₀ .limit)) (passed x) → Local W (owner i) (ws i .key) (ws i .since) (peek H (at-node R (theory.more (dims w (s₀ .limit)) (passed x)))) → TurnOk w s₀ W ws i (going s (toNode Tail R c (r .head)) [] m)
   unfolding toNode
-  goes-onward R c n e l = stays o {q = peek H (at-node R (theory.more (dims w (s₀ .limit)) (passed x)))} n refl (call-node Tail R c (r .head)) (peeks (o .level-is) (node refl e)) l
+  goes-onward R c n e l = stays o {q = peek H (at-node R (theory.more (dims w (s₀ .limit)) (passed x)))} (omega (arith, o .again-last)) refl (call-node Tail R c (r .head)) (peeks (o .level-is) (node refl e)) l
 
   -- a level
   goes-down : (g c : ℕ) → W .tree .depth H < W .tree .depth c → g ≡ c → Local W (owner i) (ws i .key) (ws i .since) (peek c at-entry) → TurnOk w s₀ W ws i (going s (toLevel Look g (r .head)) [] m)
   unfolding toLevel
-  goes-down g c n e l = stays o {q = peek c at-entry} (down-less (a .inv .structure) x (o .search .path .pub-at) n) refl (call-level Look g (r .head)) (peeks e entry) l
+  goes-down g c n e l = stays o {q = peek c at-entry} (omega (arith, down-less (a .inv .structure) x (o .search .path .pub-at) n, o .again-last)) refl (call-level Look g (r .head)) (peeks e entry) l
 
   -- what the theory makes of the word
-  met-ok : Local W (owner i) (ws i .key) (ws i .since) (again H x) → TurnOk w s₀ W ws i (spec.met s (r .head) (countFrom s (r .head) x) (goesTo w (r .head) (m .levels) x (named (cellAt w m (spot w (r .head) (r .head .pixel) (m .levels) x)))) (cellAt w m (spot w (r .head) (r .head .pixel) (m .levels) x)) m)
+  pub met-ok : word W (ws i .key) H x ≢ levelRef H → TurnOk w s₀ W ws i (spec.met s (r .head) (countFrom s (r .head) x) (goesTo w (r .head) (m .levels) x (named (cellAt w m (spot w (r .head) (r .head .pixel) (m .levels) x)))) (cellAt w m (spot w (r .head) (r .head .pixel) (m .levels) x)) m)
   unfolding spec.metNode
-  met-ok l = by (reads-next (a .inv .structure) (a .inv .partition) l)
+  met-ok y = by (reads-next (a .inv .structure) (a .inv .partition) (reads (o .search) y))
     where
       h : Head
       h = r .head
@@ -118,13 +115,27 @@ module _ {w : ℕ} {s₀ s : Settings} {m : Memory} {W : WorldOf w s₀} {ws : �
           (sym (ap does-with (spot-reads a (standing o) ∙ q) ∙ met-a-level s h _ _ t m))
           (goes-down _ c n (ap (goesTo w h (m .levels) x) (named-level t) ∙ goes-to-is a (standing o) p g e) j)
 
-module _ {w : ℕ} {s₀ s : Settings} {m : Memory} {W : WorldOf w s₀} {ws : ℕ → Worker} {i : ℕ} {r : Record} {a : At w s₀ s m W ws i r} {H : ℕ} where
-  pub again-asks : (x : Pos) → Searcher a (again H x) H x → Local W (owner i) (ws i .key) (ws i .since) (again H x) → asked.readsBy (searchKind (again H x)) w s (r .head) (r .moves) m ≡ true
-  unfolding asked.readsBy asked.reads asked.follows cellAt spec.entryOf
-  again-asks at-entry o l = both-true (picks-ok a (standing o)) (compares-ok o l)
-  again-asks (at-node R C) o l = both-true (stands-ok a (standing o)) (both-true (compares-ok o l) (ap (λ v. asked.goesBack w (s .«levels_taken») (r .head .level) v (m .levels)) (spot-reads a (standing o)) ∙ back-ok a (standing o) (not-H o l)))
+module _ {w : ℕ} {s₀ s : Settings} {m : Memory} {W : WorldOf w s₀} {ws : ℕ → Worker} {i : ℕ} {r : Record} {a : At w s₀ s m W ws i r} {p : Phase} {H : ℕ} where
+  -- what Read and Follow do with the word met, and their question 6 of it
+  pub read-ok : (o : Searcher a p H at-entry) → word W (ws i .key) H at-entry ≢ levelRef H → TurnOk w s₀ W ws i (spec.readWord s (r .head) (cellAt w m (spec.entryOf w (r .head) (m .levels))) m)
+  unfolding spec.readWord spec.entryOf
+  read-ok o y = met-ok o y
 
-  pub again-turn : (x : Pos) (o : Searcher a (again H x) H x) → Local W (owner i) (ws i .key) (ws i .since) (again H x) → TurnOk w s₀ W ws i (actBy (searchKind (again H x)) w s (r .head) (r .moves) m)
-  unfolding actBy spec.read spec.readWord spec.follow spec.followWord cellAt spec.entryOf
-  again-turn at-entry o l = met-ok o l
-  again-turn (at-node R C) o l = met-ok o l
+  pub follow-ok : {R C : ℕ} (o : Searcher a p H (at-node R C)) → word W (ws i .key) H (at-node R C) ≢ levelRef H → TurnOk w s₀ W ws i (spec.followWord w s (r .head) (nextAt (m .nodes) (r .head .node)) m)
+  unfolding spec.followWord cellAt
+  follow-ok o y = met-ok o y
+
+  pub follows-ok : {R C : ℕ} (o : Searcher a p H (at-node R C)) → word W (ws i .key) H (at-node R C) ≢ levelRef H → asked.followsRef w s (r .head) (nextAt (m .nodes) (r .head .node)) m ≡ true
+  unfolding asked.followsRef cellAt
+  follows-ok o y = both-true (compares-ok o y) (ap (λ v. asked.goesBack w (s .«levels_taken») (r .head .level) v (m .levels)) (spot-reads a (standing o)) ∙ back-ok a (standing o) y)
+
+module _ {w : ℕ} {s₀ s : Settings} {m : Memory} {W : WorldOf w s₀} {ws : ℕ → Worker} {i : ℕ} {r : Record} {a : At w s₀ s m W ws i r} {H : ℕ} where
+  pub again-asks : (x : Pos) → Searcher a (again H x) H x → word W (ws i .key) H x ≢ levelRef H → asked.readsBy (searchKind (again H x)) w s (r .head) (r .moves) m ≡ true
+  unfolding asked.readsBy asked.reads asked.follows spec.entryOf
+  again-asks at-entry o y = both-true (picks-ok a (standing o)) (compares-ok o y)
+  again-asks (at-node R C) o y = both-true (stands-ok a (standing o)) (follows-ok o y)
+
+  pub again-turn : (x : Pos) (o : Searcher a (again H x) H x) → word W (ws i .key) H x ≢ levelRef H → TurnOk w s₀ W ws i (actBy (searchKind (again H x)) w s (r .head) (r .moves) m)
+  unfolding actBy spec.read spec.follow
+  again-turn at-entry o y = read-ok o y
+  again-turn (at-node R C) o y = follow-ok o y

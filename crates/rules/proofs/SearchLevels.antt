@@ -8,25 +8,29 @@ use native.Mathlib.Numerals.{add-one}
 use native.Mathlib.Omega.{arith}
 use Rattle.settings.specs.Sizes.{levelCount}
 use Rattle.settings.specs.declared.Settings.{Settings}
-use Rattle.areas.specs.Memory.{Memory}
-use Rattle.record.specs.declared.Kind.the-variants.{Close, Follow}
+use Rattle.words.proofs.Choice.{both-true}
+use Rattle.areas.specs.Memory.{Memory, cellAt}
+use Rattle.record.specs.declared.Kind.the-variants.{Close}
 use Rattle.record.specs.Layout.{Record}
 use Rattle.rules.specs.Heads.{holdingLevel}
 use Rattle.rules.specs.Searching as spec
 use Rattle.rules.specs.Acts.{actBy}
+use Rattle.rules.specs.Asked as asks
 use Rattle.rules.specs.Asked.{readsBy}
 use Rattle.trie.proofs.Stand.{at-node}
-use Rattle.trie.proofs.Search.{again, level, shut, Local, levels, shuts, shut-done}
-use Rattle.trie.proofs.Falls.{later, level-falls}
+use Rattle.trie.proofs.Search.{level, shut, Local, levels, shuts, shut-done}
+use Rattle.trie.proofs.Falls.{level-falls}
 use Rattle.trie.proofs.Whole.{searching, Worker, is-searching, owner}
 use Rattle.trie.proofs.Turns as turns
 use Rattle.rules.proofs.Matches as shown
 use Rattle.rules.proofs.Matches.{searchKind, Doing, searches, none}
 use Rattle.rules.proofs.Invariant.{WorldOf, At, TurnOk}
+use Rattle.rules.proofs.Standing.{exchanges-ok}
 use Rattle.rules.proofs.Turned.{still-searching, place-as}
 use Rattle.rules.proofs.TakingLevel as taking
 use Rattle.rules.proofs.Closing as closing
-use Rattle.rules.proofs.Searcher.{Searcher, standing, goes-again}
+use Rattle.rules.proofs.Searcher.{Searcher, standing}
+use Rattle.rules.proofs.SearchAgain.{follow-ok, follows-ok}
 
 module _ {w : ℕ} {s₀ s : Settings} {m : Memory} {W : WorldOf w s₀} {ws : ℕ → Worker} {i : ℕ} {r : Record} {a : At w s₀ s m W ws i r} {H R C : ℕ} (o : Searcher a (level H (at-node R C)) H (at-node R C)) where
   pub level-asks : Local W (owner i) (ws i .key) (ws i .since) (level H (at-node R C)) → readsBy (searchKind (level H (at-node R C))) w s (r .head) (r .moves) m ≡ true
@@ -52,13 +56,13 @@ module _ {w : ℕ} {s₀ s : Settings} {m : Memory} {W : WorldOf w s₀} {ws : �
       by (shuts k c d b) = a .inv .each i .holds-level G .0 (b .mine)
 
   pub shut-asks : readsBy (searchKind (shut H (at-node R C) G)) w s (r .head) (r .moves) m ≡ true
-  unfolding readsBy
-  shut-asks = closing.close-asks a (standing o) in-hand
+  unfolding readsBy asks.closes cellAt
+  shut-asks = both-true (closing.close-asks a (standing o) in-hand) (exchanges-ok a (standing o) _ _ refl (follows-ok o))
 
   pub shut-turn : TurnOk w s₀ W ws i (actBy (searchKind (shut H (at-node R C) G)) w s (r .head) (r .moves) m)
-  unfolding actBy spec.close
+  unfolding actBy spec.close cellAt
   shut-turn =
       closing.close-turn a (standing o) in-hand none
       (λ q. shut-done (a .inv .structure) (a .inv .partition) (λ y. omega arith) l q)
       (λ q. turns.shut-turn (a .inv) i (is-searching (o .small) (o .since-le) l) in-hand q)
-      Follow (goes-again o (later W (shut H (at-node R C) G) (again H (at-node R C)) refl refl (omega arith)))
+      _ (follow-ok o)

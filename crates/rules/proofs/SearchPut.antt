@@ -1,18 +1,18 @@
--- Put and Append: question 6 holds; done, the node is placed and the call ends "new"; failed, the cell is read again.
--- Relies on a worker that searches and on the theory's placing of a node.
+-- Put and Append: question 6 holds; done, the node is placed and the call ends "new"; failed, the word met is acted on as Read and Follow do.
+-- Relies on a worker that searches, on what it does with a word that it met, and on the theory's placing of a node.
 use Prim.Native.Nat.{ℕ, suc, _-_}
 use mathlib.Core.Path.{_≡_, refl, sym, subst}
+use mathlib.Core.Logic.{_≢_}
 use mathlib.Core.Bool.{true}
 use mathlib.Core.List.{[]}
 use native.Mathlib.Omega.{arith}
-use Rattle.words.proofs.Choice.{pick-both, both-true}
+use Rattle.words.proofs.Choice.{both-true}
 use Rattle.settings.specs.declared.Settings.{Settings}
 use Rattle.areas.specs.Memory.{Memory, levelRef, nodeRef, cellAt, setCell}
-use Rattle.record.specs.declared.Kind.the-variants.{Read, Follow}
 use Rattle.record.specs.declared.Answer.the-variants.{New}
 use Rattle.record.specs.Layout.{Record}
 use Rattle.rules.specs.Heads.{ended}
-use Rattle.rules.specs.Steps.{step, expected}
+use Rattle.rules.specs.Steps.{Step, step}
 use Rattle.rules.specs.Searching as spec
 use Rattle.rules.specs.Acts.{actBy}
 use Rattle.rules.specs.Asked as asked
@@ -21,18 +21,19 @@ use Rattle.trie.proofs.Fresh.{fresh-keep}
 use Rattle.trie.proofs.Place.{place, place-grows}
 use Rattle.trie.proofs.World.{lastCell}
 use Rattle.trie.proofs.Stand.{Pos, at-entry, at-node, cellOf}
-use Rattle.trie.proofs.Search.{put, again, Local, puts, word, put-done}
-use Rattle.trie.proofs.Falls.{later}
+use Rattle.trie.proofs.Search.{put, Local, puts, word, put-done}
 use Rattle.trie.proofs.Levels.{levels-stay}
 use Rattle.trie.proofs.Whole.{idle, Worker, is-searching, owner}
 use Rattle.trie.proofs.Turns as turns
 use Rattle.rules.proofs.Dims.{dims}
-use Rattle.rules.proofs.Matches.{byPos, searchKind, rests}
+use Rattle.rules.proofs.Exchanging.{exchange-both}
+use Rattle.rules.proofs.Matches.{searchKind, rests}
 use Rattle.rules.proofs.Invariant.{WorldOf, gave, At, TurnOk, ends-new}
 use Rattle.rules.proofs.Holding.{node-owned, node-hand-ok}
-use Rattle.rules.proofs.Standing.{spot, picks-ok, stands-ok, spot-cell, spot-taken, here-reads, other-reads, ends-here}
+use Rattle.rules.proofs.Standing.{spot, picks-ok, stands-ok, spot-cell, spot-taken, here-reads, other-reads, exchanges-ok, ends-here}
 use Rattle.rules.proofs.Turned.{table-with, written}
-use Rattle.rules.proofs.Searcher.{Searcher, standing, goes-again}
+use Rattle.rules.proofs.Searcher.{Searcher, standing}
+use Rattle.rules.proofs.SearchAgain.{compares-ok, read-ok, follow-ok, follows-ok}
 
 module _ {w : ℕ} {s₀ s : Settings} {m : Memory} {W : WorldOf w s₀} {ws : ℕ → Worker} {i : ℕ} {r : Record} {a : At w s₀ s m W ws i r} {H n : ℕ} where
   -- the node in hand
@@ -40,11 +41,13 @@ module _ {w : ℕ} {s₀ s : Settings} {m : Memory} {W : WorldOf w s₀} {ws : �
   in-hand o (puts k c mine p t) = a .inv .each i .holds-node n .0 mine
 
   pub put-asks : (x : Pos) → Searcher a (put H x n) H x → Local W (owner i) (ws i .key) (ws i .since) (put H x n) → asked.readsBy (searchKind (put H x n)) w s (r .head) (r .moves) m ≡ true
-  unfolding asked.readsBy asked.puts asked.appends
-  put-asks at-entry o l = both-true (picks-ok a (standing o)) (node-hand-ok a (in-hand o l))
-  put-asks (at-node R C) o l = both-true (stands-ok a (standing o)) (node-hand-ok a (in-hand o l))
+  unfolding asked.readsBy asked.puts asked.picksWith asked.appends asked.standsWith cellAt spec.entryOf
+  put-asks at-entry o l =
+      both-true (both-true (picks-ok a (standing o)) (node-hand-ok a (in-hand o l))) (exchanges-ok a (standing o) _ _ refl (compares-ok o))
+  put-asks (at-node R C) o l =
+      both-true (both-true (stands-ok a (standing o)) (node-hand-ok a (in-hand o l))) (exchanges-ok a (standing o) _ _ refl (follows-ok o))
 
-  -- done
+  -- the exchange is done
   put-new : {x : Pos} (o : Searcher a (put H x n) H x) (l : Local W (owner i) (ws i .key) (ws i .since) (put H x n)) → word W (ws i .key) H x ≡ levelRef H → TurnOk w s₀ W ws i (step (New n) s (ended 1 n 0 (r .head)) [] (setCell w m (spot w (r .head) (r .head .pixel) (m .levels) x) (nodeRef n)))
   unfolding ended
   put-new {x} o l q =
@@ -69,15 +72,16 @@ module _ {w : ℕ} {s₀ s : Settings} {m : Memory} {W : WorldOf w s₀} {ws : �
       pixel-of : Local W (owner i) (ws i .key) (ws i .since) (put H x n) → W .pixel n ≡ ws i .key
       pixel-of (puts k c mine p t) = p
 
-  exchanged : {x : Pos} (o : Searcher a (put H x n) H x) → Local W (owner i) (ws i .key) (ws i .since) (put H x n) → TurnOk w s₀ W ws i (spec.placed w (byPos Read Follow x) s (r .head) (spot w (r .head) (r .head .pixel) (m .levels) x) m)
+  -- done or failed
+  put-either : {x : Pos} (failed : ℕ → Memory → Step) (o : Searcher a (put H x n) H x) → Local W (owner i) (ws i .key) (ws i .since) (put H x n) → (word W (ws i .key) H x ≢ levelRef H → TurnOk w s₀ W ws i (failed (cellAt w m (spot w (r .head) (r .head .pixel) (m .levels) x)) m)) → TurnOk w s₀ W ws i (spec.placed w failed s (r .head) (spot w (r .head) (r .head .pixel) (m .levels) x) m)
   unfolding spec.placed
-  exchanged {x} o l =
+  put-either {x} failed o l g =
       let h : r .head .«held_node» - 1 ≡ n = omega (arith, a .matches .node-is, in-hand o l) in
-      pick-both (TurnOk w s₀ W ws i) (expected (r .head) (cellAt w m (spot w (r .head) (r .head .pixel) (m .levels) x)))
+      exchange-both (TurnOk w s₀ W ws i) w (r .head) (spot w (r .head) (r .head .pixel) (m .levels) x) _ _ _ m
       (λ e. subst (λ k. TurnOk w s₀ W ws i (step (New k) s (ended 1 k 0 (r .head)) [] (setCell w m (spot w (r .head) (r .head .pixel) (m .levels) x) (nodeRef k)))) (sym h) (put-new o l (here-reads a (standing o) e)))
-      (λ e. goes-again o (later W (put H x n) (again H x) refl refl (omega arith)) (other-reads a (standing o) e))
+      (λ e. g (other-reads a (standing o) e))
 
   pub put-turn : (x : Pos) (o : Searcher a (put H x n) H x) → Local W (owner i) (ws i .key) (ws i .since) (put H x n) → TurnOk w s₀ W ws i (actBy (searchKind (put H x n)) w s (r .head) (r .moves) m)
-  unfolding actBy spec.put spec.append spec.entryOf
-  put-turn at-entry o l = exchanged o l
-  put-turn (at-node R C) o l = exchanged o l
+  unfolding actBy spec.put spec.append spec.entryOf cellAt
+  put-turn at-entry o l = put-either _ o l (read-ok o)
+  put-turn (at-node R C) o l = put-either _ o l (follow-ok o)

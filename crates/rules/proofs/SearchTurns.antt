@@ -11,8 +11,9 @@ use Rattle.record.specs.Layout.{Record}
 use Rattle.rules.specs.Acts.{act}
 use Rattle.rules.specs.Asked.{readsBy, question9}
 use Rattle.trie.proofs.Search as clause
-use Rattle.trie.proofs.Stand.{Pos}
 use Rattle.trie.proofs.Search.{Phase, Searching, peek, fetch, put, again, level, shut}
+use Rattle.trie.proofs.Measure.{levelOf, posOf}
+use Rattle.trie.proofs.Falls.{again-last}
 use Rattle.trie.proofs.Whole.{Worker, searching, ActOk, is-searching, owner}
 use Rattle.rules.proofs.Matches.{searchKind, Place, peeks, fetches, puts, agains, levels, shuts, Doing, searches}
 use Rattle.rules.proofs.Invariant.{WorldOf, At, TurnOk}
@@ -30,8 +31,8 @@ module _ {w : ℕ} {s₀ s : Settings} {m : Memory} {W : WorldOf w s₀} {ws : �
     asks : readsBy (r .head .kind) w s (r .head) (r .moves) m ≡ true
     turn : question9 s r ≡ true → TurnOk w s₀ W ws i (act w s r m)
 
-  searcher : (p : Phase) {H : ℕ} {x : Pos} → ws i .act ≡ searching p → r .head .kind ≡ searchKind p → r .head .level ≡ H → Place (r .head) x → ws i .key < base w ^ depths w → ws i .since ≤ length (W .book) → Searching W (ws i .key) H x → Searcher a p H x
-  searcher p e k g d small b c = record { kind-is = k; level-is = g; place = d; small = small; since-le = b; search = c; act-is = e }
+  searcher : (p : Phase) → ws i .act ≡ searching p → r .head .kind ≡ searchKind p → r .head .level ≡ levelOf p → Place (r .head) (posOf p) → ws i .key < base w ^ depths w → ws i .since ≤ length (W .book) → Searching W (ws i .key) (levelOf p) (posOf p) → Searcher a p (levelOf p) (posOf p)
+  searcher p e k g d small b c = record { kind-is = k; level-is = g; place = d; small = small; since-le = b; search = c; act-is = e; again-last = again-last W p }
 
   -- by the phase, of which the record has the kind and the numbers, and the theory the clause
   by-phase : (p : Phase) → ws i .act ≡ searching p → Doing (r .head) (r .moves) (searching p) → ActOk W (owner i) (ws i .key) (ws i .since) (searching p) → Turns
@@ -46,7 +47,7 @@ module _ {w : ℕ} {s₀ s : Settings} {m : Memory} {W : WorldOf w s₀} {ws : �
       record { asks = asks-by a k (put-asks x o (clause.puts c l v p t)); turn = λ q. turn-by a k (put-turn x o (clause.puts c l v p t)) }
   by-phase (again H x) e (searches k n (agains g d)) (is-searching small b (clause.reads c y)) =
       let o = searcher (again H x) e k g d small b c in
-      record { asks = asks-by a k (again-asks x o (clause.reads c y)); turn = λ q. turn-by a k (again-turn x o (clause.reads c y)) }
+      record { asks = asks-by a k (again-asks x o y); turn = λ q. turn-by a k (again-turn x o y) }
   by-phase (level H x) e (searches k n (levels g d)) (is-searching small b (clause.levels c l y)) =
       let o = searcher (level H x) e k g d small b c in
       record { asks = asks-by a k (level-asks o (clause.levels c l y)); turn = λ q. turn-by a k (level-turn o (clause.levels c l y)) }

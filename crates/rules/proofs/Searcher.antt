@@ -35,6 +35,7 @@ pub record Searcher {w : ℕ} {s₀ s : Settings} {m : Memory} {W : WorldOf w s�
   pub since-le : ws i .since ≤ length (W .book)
   pub search : Searching W (ws i .key) H x
   pub act-is : ws i .act ≡ searching p
+  pub again-last : phase W (again H x) ≤ phase W p
 
 module _ {w : ℕ} {s₀ s : Settings} {m : Memory} {W : WorldOf w s₀} {ws : ℕ → Worker} {i : ℕ} {r : Record} {a : At w s₀ s m W ws i r} {p : Phase} {H : ℕ} {x : Pos} (o : Searcher a p H x) where
   pub standing : Standing W (Other W (ws i .key)) (r .head) (r .head .pixel) (ws i .key) H x

@@ -17,7 +17,7 @@ use Rattle.record.specs.declared.Move.{Move}
 use Rattle.record.specs.Layout.{record′}
 use Rattle.rules.specs.Heads.{to, lastNode}
 use Rattle.rules.specs.Steps.{going}
-use Rattle.rules.specs.Asked.{pixelFits, setPuts}
+use Rattle.rules.specs.Asked.{pixelFits, setEntry}
 use Rattle.trie.proofs.Stand.{Pos}
 use Rattle.trie.proofs.World.{Placed}
 use Rattle.trie.proofs.Search.{Phase, again, word}
@@ -47,6 +47,7 @@ pub record Setter {w : ℕ} {s₀ s : Settings} {m : Memory} {W : WorldOf w s₀
   pub setting : Setting W N (f .child) T x
   pub around : Around W (owner i) (ws i .key) (f .home) (f .key) (f .child) fs
   pub act-is : ws i .act ≡ moving f fs (set N p)
+  pub again-last : phase W (again T x) ≤ phase W p
 
 module _ {w : ℕ} {s₀ s : Settings} {m : Memory} {W : WorldOf w s₀} {ws : ℕ → Worker} {i : ℕ} {h : Head} {v : Move} {os : List Move} {a : At w s₀ s m W ws i (record′ h (v ∷ os))} {f : Frame} {fs : List Frame} {N T : ℕ} {p : Phase} {x : Pos} (o : Setter a f fs N p T x) where
   -- the node
@@ -67,9 +68,9 @@ module _ {w : ℕ} {s₀ s : Settings} {m : Memory} {W : WorldOf w s₀} {ws : �
       }
 
   -- question 6 of its entry
-  pub puts-ok : setPuts w s h (lastNode v) m ≡ true
-  unfolding setPuts
-  puts-ok = both-true (picks-ok a standing) (ap (λ n. pixelFits s n (m .nodes)) node-last ∙ pixel-fits (a .table) (a .inv .structure) N node-placed)
+  pub entry-ok : setEntry w s h (lastNode v) m ≡ true
+  unfolding setEntry
+  entry-ok = both-true (picks-ok a standing) (ap (λ n. pixelFits s n (m .nodes)) node-last ∙ pixel-fits (a .table) (a .inv .structure) N node-placed)
 
   -- the theory's clauses of the worker
   pub sets-by : {q : Phase} → SetOk W (owner i) N (f .child) q → Moving W (owner i) (ws i .key) f fs (set N q)

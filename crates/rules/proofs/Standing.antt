@@ -3,7 +3,7 @@
 use Prim.Native.Nat.{ℕ, _≤_, _<_}
 use mathlib.Core.Path.{_≡_, sym, ap, ap₂, _∙_}
 use mathlib.Core.Logic.{_≢_}
-use mathlib.Core.Bool.{true, false}
+use mathlib.Core.Bool.{Bool, true, false}
 use mathlib.Core.List.{List}
 use native.Mathlib.Omega.{arith}
 use lib.Dec.{eqb, ltb}
@@ -18,7 +18,7 @@ use Rattle.record.specs.declared.Kind.{Kind}
 use Rattle.record.specs.declared.Head.{Head}
 use Rattle.record.specs.Layout.{Record}
 use Rattle.rules.specs.Steps.{expected, byCount}
-use Rattle.rules.specs.Asked.{picksIn, standsAt}
+use Rattle.rules.specs.Asked.{picksIn, standsAt, exchanges}
 use Rattle.trie.proofs.Digits.{digit, digit-lt, Dims}
 use Rattle.trie.proofs.Tree.{Published}
 use Rattle.trie.proofs.World.{World, Structure}
@@ -97,6 +97,11 @@ module _ {w : ℕ} {s₀ s : Settings} {m : Memory} {W : WorldOf w s₀} {ws : �
   pub other-reads : expected (r .head) (cellAt w m (spot w (r .head) p (m .levels) x)) ≡ false → word W K H x ≢ levelRef H
   unfolding expected
   other-reads e y = eqb-false _ _ e (spot-reads ∙ y ∙ ap levelRef (sym (o .level-is)))
+
+  -- question 6 of an exchange: there is room where it is done, and the word that it met is asked where it fails
+  pub exchanges-ok : (room : Bool) (asks : ℕ → Bool) → room ≡ true → (word W K H x ≢ levelRef H → asks (cellAt w m (spot w (r .head) p (m .levels) x)) ≡ true) → exchanges w (r .head) (spot w (r .head) p (m .levels) x) room asks m ≡ true
+  unfolding exchanges
+  exchanges-ok room asks y f = pick-both (λ b. b ≡ true) (expected (r .head) (cellAt w m (spot w (r .head) p (m .levels) x))) (λ e. y) (λ e. f (other-reads e))
 
   -- if it does, the worker stands at the end of an open chain, and has passed no more nodes than the limit; else the word leads on
   pub ends-here : word W K H x ≡ levelRef H → Free W P H (digit (dims w (s₀ .limit)) K (W .tree .depth H)) x

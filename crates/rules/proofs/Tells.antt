@@ -10,8 +10,9 @@ use borrow.Author.Tests.{ne-eqb}
 use Rattle.words.specs.Choice.{pick}
 use Rattle.words.proofs.Choice.{pick-both, true-false}
 use Rattle.settings.specs.declared.Settings.{Settings}
-use Rattle.areas.specs.Memory.{Memory, isNode}
+use Rattle.areas.specs.Memory.{Memory, isNode, cellAt}
 use Rattle.areas.specs.declared.Cell.{Cell}
+use Rattle.areas.specs.declared.Cell.the-variants.{Next}
 use Rattle.record.specs.declared.Kind.{Kind}
 use Rattle.record.specs.declared.Kind.the-variants.{Idle, Look, Take, Put, Read, Tail, TakeTail, Append, Level, Close, Follow, ChainHead, ChainNext, SetNext, SetLook, SetPut, SetRead, SetTail, SetAppend, SetLevel, SetClose, SetFollow, MoveEnd, Unknown}
 use Rattle.record.specs.declared.Answer.{Answer}
@@ -27,6 +28,7 @@ use Rattle.rules.specs.Searching as searching
 use Rattle.rules.specs.Moving as moving
 use Rattle.rules.specs.Acts.{actBy, act}
 use Rattle.rules.specs.Asked.{question7, question8}
+use Rattle.rules.proofs.Exchanging.{exchange-both}
 
 -- what a turn that is carried out answers
 pub data Said : Answer → Type 0 where
@@ -76,9 +78,9 @@ module _ (w : ℕ) (s : Settings) (h : Head) where
       pick-both (λ (k : Kind). 1 ≤ kindNo k) _ (λ e. o) (λ e. pick-both (λ (k : Kind). 1 ≤ kindNo k) _ (λ f. p) (λ f. q))
 
   module _ (m : Memory) where
-    placed-tells : (k : Kind) (x : Cell) → 1 ≤ kindNo k → Tells (searching.placed w k s h x m)
+    placed-tells : (failed : ℕ → Memory → Step) (x : Cell) → Tells (failed (cellAt w m x) m) → Tells (searching.placed w failed s h x m)
     unfolding searching.placed
-    placed-tells k x o = pick-both Tells (expected h _) (λ e. new-tells s _ 0 h _) (λ e. to-tells k [] m o)
+    placed-tells failed x o = exchange-both Tells w h x _ _ _ m (λ e. new-tells s _ 0 h _) (λ e. o)
 
     met-tells : (c g word : ℕ) → Tells (searching.met s h c g word m)
     unfolding searching.met searching.metNode kindNo
@@ -95,9 +97,9 @@ module _ (w : ℕ) (s : Settings) (h : Head) where
     unfolding takeLevel withLevel holdingLevel
     taken-tells k ms o = pick-both Tells (eqb (h .«held_level») 0) (λ e. open-tells _ _ ms _ o) (λ e. open-tells _ _ ms _ o)
 
-    closed-tells : (k : Kind) (ms : List Move) → 1 ≤ kindNo k → Tells (closed w k s h ms m)
+    closed-tells : (failed : ℕ → Memory → Step) (ms : List Move) → Tells (failed (cellAt w m (Next (h .node))) m) → Tells (closed w failed s h ms m)
     unfolding closed holdingLevel kindNo
-    closed-tells k ms o = pick-both Tells (expected h _) (λ e. open-tells s _ _ _ (omega arith)) (λ e. to-tells k ms m o)
+    closed-tells failed ms o = exchange-both Tells w h (Next (h .node)) _ _ _ m (λ e. open-tells s _ _ _ (omega arith)) (λ e. o)
 
     last-tells : (v : Move) (os : List Move) (m : Memory) → Tells (moving.setLast s h v os m)
     unfolding moving.setLast to toLevel kindNo
@@ -113,9 +115,9 @@ module _ (w : ℕ) (s : Settings) (h : Head) where
     again-tells v os c g word =
         open-tells s _ (v ∷ os) m (pick-both (λ (x : Head). 1 ≤ kindNo (x .kind)) (isNode word) (λ e. omega arith) (λ e. omega arith))
 
-    set-tells : (k : Kind) (v : Move) (os : List Move) (x : Cell) → 1 ≤ kindNo k → Tells (moving.setNode w k s h v os x m)
+    set-tells : (failed : ℕ → Memory → Step) (v : Move) (os : List Move) (x : Cell) → Tells (failed (cellAt w m x) m) → Tells (moving.setNode w failed s h v os x m)
     unfolding moving.setNode
-    set-tells k v os x o = pick-both Tells (expected h _) (λ e. last-tells _ os _) (λ e. to-tells k _ m o)
+    set-tells failed v os x o = exchange-both Tells w h x _ _ _ m (λ e. last-tells _ os _) (λ e. o)
 
     after-tells : (g : ℕ) (os : List Move) (m : Memory) → Tells (going s (moving.afterMove h g os) os m)
     unfolding moving.afterMove kindNo
@@ -128,24 +130,24 @@ module _ (w : ℕ) (s : Settings) (h : Head) where
     kind-tells Idle ms e o = absurd (omega arith)
     kind-tells Look ms e o = peek-tells _ Take Read [] m (omega arith) (omega arith)
     kind-tells Take ms e o = take-tells Put (omega arith)
-    kind-tells Put ms e o = placed-tells Read _ (omega arith)
+    kind-tells Put ms e o = placed-tells _ _ (met-tells 1 _ _)
     kind-tells Read ms e o = met-tells 1 _ _
     kind-tells Tail ms e o = peek-tells _ _ Follow [] m (count-open _ TakeTail Level Follow (omega arith) (omega arith) (omega arith)) (omega arith)
     kind-tells TakeTail ms e o = take-tells Append (omega arith)
-    kind-tells Append ms e o = placed-tells Follow _ (omega arith)
+    kind-tells Append ms e o = placed-tells _ _ (met-tells _ _ _)
     kind-tells Level ms e o = taken-tells Close [] (omega arith)
-    kind-tells Close ms e o = closed-tells Follow [] (omega arith)
+    kind-tells Close ms e o = closed-tells _ [] (met-tells _ _ _)
     kind-tells Follow ms e o = met-tells _ _ _
     kind-tells ChainHead ms e o = chain-tells _ _ _
     kind-tells ChainNext ms e o = chain-tells _ _ _
     kind-tells SetNext ms e o = to-tells SetLook _ _ (omega arith)
     kind-tells SetLook ms e o = peek-tells _ SetPut SetRead _ m (omega arith) (omega arith)
-    kind-tells SetPut ms e o = set-tells SetRead _ _ _ (omega arith)
+    kind-tells SetPut ms e o = set-tells _ _ _ _ (again-tells _ _ 1 _ _)
     kind-tells SetRead ms e o = again-tells _ _ 1 _ _
     kind-tells SetTail ms e o = peek-tells _ _ SetFollow _ m (count-open _ SetAppend SetLevel SetFollow (omega arith) (omega arith) (omega arith)) (omega arith)
-    kind-tells SetAppend ms e o = set-tells SetFollow _ _ _ (omega arith)
+    kind-tells SetAppend ms e o = set-tells _ _ _ _ (again-tells _ _ _ _ _)
     kind-tells SetLevel ms e o = taken-tells SetClose _ (omega arith)
-    kind-tells SetClose ms e o = closed-tells SetFollow _ (omega arith)
+    kind-tells SetClose ms e o = closed-tells _ _ (again-tells _ _ _ _ _)
     kind-tells SetFollow ms e o = again-tells _ _ _ _ _
     kind-tells MoveEnd ms e o = after-tells _ _ _
     kind-tells Unknown ms e o = open-tells s h ms m (subst (λ (x : Kind). 1 ≤ kindNo x) (sym e) (omega arith))

@@ -13,7 +13,8 @@ use Rattle.words.specs.Choice.{pick, every}
 use Rattle.words.proofs.Choice.{pick-both, pick-true, both-left, both-right, both-true}
 use Rattle.settings.specs.Sizes.{within, levelCount, question1, question2, question3}
 use Rattle.settings.specs.declared.Settings.{Settings}
-use Rattle.areas.specs.Memory.{Memory, fillNode, fillLevel}
+use Rattle.areas.specs.Memory.{Memory, cellAt, setCell, fillNode, fillLevel}
+use Rattle.areas.specs.declared.Cell.{Cell}
 use Rattle.areas.proofs.Cells.{set-length-nodes, set-length-levels}
 use Rattle.record.specs.declared.Kind.{Kind}
 use Rattle.record.specs.declared.Kind.the-variants.{Idle, Look, Take, Put, Read, Tail, TakeTail, Append, Level, Close, Follow, ChainHead, ChainNext, SetNext, SetLook, SetPut, SetRead, SetTail, SetAppend, SetLevel, SetClose, SetFollow, MoveEnd, Unknown}
@@ -22,7 +23,7 @@ use Rattle.record.specs.declared.Move.{Move}
 use Rattle.record.specs.Kinds.{kindNo}
 use Rattle.record.specs.Layout.{Record}
 use Rattle.record.proofs.Records.{length-store}
-use Rattle.rules.specs.Steps.{Step, tookNode, tookLevel, withNode, takeNode, withLevel, takeLevel, closed}
+use Rattle.rules.specs.Steps.{Step, tookNode, tookLevel, withNode, takeNode, withLevel, takeLevel, exchanging, closed}
 use Rattle.rules.specs.Searching as searching
 use Rattle.rules.specs.Moving as moving
 use Rattle.rules.specs.Acts.{actBy, act}
@@ -33,6 +34,7 @@ use Rattle.rules.specs.Refusals.{AllYes}
 use Rattle.rules.specs.Access.{Access}
 use Rattle.rules.specs.Access as access
 use Rattle.rules.proofs.OneTurn.{done-number, nine-is-full, turn-refused, refuses-turn}
+use Rattle.rules.proofs.Exchanging.{exchange-both}
 use Rattle.rules.proofs.Invariant.{SameSizes}
 use Rattle.rules.proofs.ExcessWords.{same-node, same-level}
 use Rattle.rules.proofs.ExcessActs.{sizes-same}
@@ -81,6 +83,13 @@ module _ (w : ℕ) (s : Settings) (h : Head) (m : Memory) (q : question3 w s ≡
   either : (b : Bool) (t u : Step) → Counted t → Counted u → Counted (pick b t u)
   either b t u p r = pick-both Counted b (λ e. p) (λ e. r)
 
+  exchanged : (x : Cell) (b : ℕ) (done : Memory → Step) (failed : ℕ → Memory → Step) → Counted (done (setCell w m x b)) → Counted (failed (cellAt w m x) m) → Counted (exchanging w h x b done failed m)
+  exchanged x b done failed p r = exchange-both Counted w h x b done failed m (λ e. p) (λ e. r)
+
+  met-counted : (c g word : ℕ) → Counted (searching.met s h c g word m)
+  unfolding searching.met searching.metNode
+  met-counted c g word = search (either, q)
+
   take-counted : (k : Kind) → nodeLeft s h ≡ true → Counted (takeNode k s h m)
   unfolding takeNode withNode tookNode nodeLeft question3 levelCount
   take-counted k y =
@@ -109,28 +118,28 @@ module _ (w : ℕ) (s : Settings) (h : Head) (m : Memory) (q : question3 w s ≡
   left-tail y = y
 
   kind-counted : (k : Kind) (ms : List Move) → readsBy k w s h ms m ≡ true → pick (takesNode k) (nodeLeft s h) true ≡ true → Counted (actBy k w s h ms m)
-  unfolding actBy readsBy closed searching.look searching.take searching.put searching.placed searching.read searching.readWord searching.met searching.metNode searching.tail searching.takeTail searching.append searching.level searching.close searching.follow searching.followWord moving.chainHead moving.chainNext moving.chainWord moving.setLast moving.setNext moving.setLook moving.setPut moving.setNode moving.setRead moving.setReadWord moving.setMet moving.setTail moving.setAppend moving.setLevel moving.setClose moving.setFollow moving.setFollowWord moving.moveEnd
+  unfolding actBy readsBy closed searching.look searching.take searching.put searching.placed searching.read searching.readWord searching.tail searching.takeTail searching.append searching.level searching.close searching.follow searching.followWord moving.chainHead moving.chainNext moving.chainWord moving.setLast moving.setNext moving.setLook moving.setPut moving.setNode moving.setRead moving.setReadWord moving.setMet moving.setTail moving.setAppend moving.setLevel moving.setClose moving.setFollow moving.setFollowWord moving.moveEnd
   kind-counted Idle ms y n = q
   kind-counted Look ms y n = q
   kind-counted Take ms y n = take-counted Put (left-take n)
-  kind-counted Put ms y n = search (either, q)
-  kind-counted Read ms y n = search (either, q)
+  kind-counted Put ms y n = exchanged _ _ _ _ q (met-counted _ _ _)
+  kind-counted Read ms y n = met-counted _ _ _
   kind-counted Tail ms y n = q
   kind-counted TakeTail ms y n = take-counted Append (left-tail n)
-  kind-counted Append ms y n = search (either, q)
+  kind-counted Append ms y n = exchanged _ _ _ _ q (met-counted _ _ _)
   kind-counted Level ms y n = level-counted Close [] y
-  kind-counted Close ms y n = search (either, q)
-  kind-counted Follow ms y n = search (either, q)
+  kind-counted Close ms y n = exchanged _ _ _ _ q (met-counted _ _ _)
+  kind-counted Follow ms y n = met-counted _ _ _
   kind-counted ChainHead ms y n = search (either, q)
   kind-counted ChainNext ms y n = search (either, q)
   kind-counted SetNext ms y n = q
   kind-counted SetLook ms y n = q
-  kind-counted SetPut ms y n = search (either, q)
+  kind-counted SetPut ms y n = exchanged _ _ _ _ q q
   kind-counted SetRead ms y n = q
   kind-counted SetTail ms y n = q
-  kind-counted SetAppend ms y n = search (either, q)
+  kind-counted SetAppend ms y n = exchanged _ _ _ _ q q
   kind-counted SetLevel ms y n = level-counted SetClose _ y
-  kind-counted SetClose ms y n = search (either, q)
+  kind-counted SetClose ms y n = exchanged _ _ _ _ q q
   kind-counted SetFollow ms y n = q
   kind-counted MoveEnd ms y n = q
   kind-counted Unknown ms y n = q

@@ -18,7 +18,7 @@ Inside w (Next i) = Unit
 
 -- one access of a worker with the head h to the memory m with the settings s: what it leaves
 pub data Access (w : ℕ) (s : Settings) (h : Head) (m : Memory) (s′ : Settings) (m′ : Memory) : Type 0 where
-  -- a cell is read, or an exchange fails; a refusal makes no access
+  -- a cell is read, or an exchange fails and the word that it met is acted on; a refusal makes no access
   none : s′ ≡ s → m′ ≡ m → Access w s h m s′ m′
   -- an exchange is done, or a word is written: one cell changes
   cell : (x : Cell) (v : ℕ) → Inside w x → s′ ≡ s → m′ ≡ setCell w m x v → Access w s h m s′ m′

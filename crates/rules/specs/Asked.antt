@@ -11,6 +11,7 @@ use Rattle.settings.specs.Sizes.{levelCount, maxMoves}
 use Rattle.settings.specs.declared.Settings.{Settings}
 use Rattle.areas.specs.Memory.{Memory, isNode, named, pixelAt, nextAt, depthAt, cellAt, levelTaken, nodeTaken, refTaken}
 use Rattle.areas.specs.declared.Cell.{Cell}
+use Rattle.areas.specs.declared.Cell.the-variants.{Next}
 use Rattle.record.specs.declared.Kind.{Kind}
 use Rattle.record.specs.declared.Kind.the-variants.{Idle, Look, Take, Put, Read, Tail, TakeTail, Append, Level, Close, Follow, ChainHead, ChainNext, SetNext, SetLook, SetPut, SetRead, SetTail, SetAppend, SetLevel, SetClose, SetFollow, MoveEnd, Unknown}
 use Rattle.record.specs.declared.Head.{Head}
@@ -66,6 +67,22 @@ comparesRef s word nodes = pick (isNode word) (pixelFits s (named word) nodes) (
 unfoldable pub goesBack : ℕ → ℕ → ℕ → ℕ → List ℕ → Bool
 goesBack w taken level word levels = pick (isNode word) true (backMeets w taken levels (depths w - 1) level (named word))
 
+-- Follow's word: as Read's, and the way back from a level
+unfoldable pub followsRef : ℕ → Settings → Head → ℕ → Memory → Bool
+followsRef w s h word m = both (comparesRef s word (m .nodes)) (goesBack w (s .«levels_taken») (h .level) word (m .levels))
+
+-- SetFollow's word: it names something taken, and the way back from a level
+unfoldable pub setFollowsRef : ℕ → Settings → Head → ℕ → List ℕ → Bool
+setFollowsRef w s h word levels = both (refTaken s word) (goesBack w (s .«levels_taken») (h .level) word levels)
+
+-- Put, Append, Close and those of a Move exchange cell x. Done: nothing more is asked, but of SetClose room for the Move that begins.
+-- Failed: the word that it gives is asked.
+-- document 02: "The word a failed exchange gives counts as a reference read for question 6."
+unfoldable pub exchanges : ℕ → Head → Cell → Bool → (ℕ → Bool) → Memory → Bool
+exchanges w h x room asks m =
+    let word : ℕ = cellAt w m x in
+    pick (expected h word) room (asks word)
+
 -- Level and SetLevel: "depths, a new level's too, at most 7", "is a needed level left?"
 unfoldable pub levelLeft : ℕ → Settings → Head → List ℕ → Bool
 levelLeft w s h levels =
@@ -76,9 +93,9 @@ levelLeft w s h levels =
 unfoldable pub remembers : Settings → Move → ℕ → Bool
 remembers s v word = pick (isNode word) (leb (v .count + 1) (s .limit)) true
 
--- SetClose: "Moves one inside another at most 7", where the exchange would be done
-unfoldable pub moveLeft : ℕ → Head → List Move → List ℕ → Bool
-moveLeft w h ms nodes = pick (expected h (nextAt nodes (h .node))) (ltb (length ms) (maxMoves w)) true
+-- SetClose: "Moves one inside another at most 7": is there room for one more?
+unfoldable pub moveLeft : ℕ → List Move → Bool
+moveLeft w ms = ltb (length ms) (maxMoves w)
 
 -- the key of a Move inside a Move is the outer N's pixel
 unfoldable pub keyFits : Settings → List Move → List ℕ → Bool
@@ -89,11 +106,11 @@ keyFits s (o ∷ os) nodes = pixelFits s (lastNode o) nodes
 unfoldable pub takes : Settings → Head → Bool
 takes s h = both (levelTaken s (h .level)) (spare (h .«held_node») (s .«nodes_taken»))
 
--- Tail, SetTail: the level, R, and R's next
+-- Tail, Follow and those of a Move: the level, and R
 unfoldable pub standsAt : Settings → Head → Bool
 standsAt s h = both (levelTaken s (h .level)) (nodeTaken s (h .node))
 
--- Tail, SetTail: R's next
+-- Tail, SetTail: R's next too
 unfoldable pub tails : Settings → Head → List ℕ → Bool
 tails s h nodes = both (standsAt s h) (refTaken s (nextAt nodes (h .node)))
 
@@ -101,31 +118,43 @@ tails s h nodes = both (standsAt s h) (refTaken s (nextAt nodes (h .node)))
 unfoldable pub takesLevel : ℕ → Settings → Head → List ℕ → Bool
 takesLevel w s h levels = both (levelTaken s (h .level)) (both (spare (h .«held_level») (s .«levels_taken»)) (levelLeft w s h levels))
 
--- Close, SetClose
-unfoldable pub closes : Settings → Head → Bool
-closes s h = both (standsAt s h) (inHand (h .«held_level») (s .«levels_taken»))
+-- SetAppend: the level, R, and N (n)
+unfoldable pub standsSetting : Settings → Head → ℕ → Bool
+standsSetting s h n = both (standsAt s h) (nodeTaken s n)
 
--- Look, Read, Put: the entry of K in H
+-- Append, Close, SetClose: the level, R, and the node or level in hand
+unfoldable pub standsWith : Settings → Head → ℕ → ℕ → Bool
+standsWith s h held taken = both (standsAt s h) (inHand held taken)
+
+-- Look: H, and the entry
 unfoldable pub looks : ℕ → Settings → Head → Memory → Bool
 looks w s h m = both (picksIn w s (h .level) (m .levels)) (readsRef w s (entryOf w h (m .levels)) m)
 
--- Put: H, and the node in hand; the exchange reads no reference
-unfoldable pub puts : ℕ → Settings → Head → List ℕ → Bool
-puts w s h levels = both (picksIn w s (h .level) levels) (inHand (h .«held_node») (s .«nodes_taken»))
+-- Put: H, and the node in hand
+unfoldable pub picksWith : ℕ → Settings → Head → List ℕ → Bool
+picksWith w s h levels = both (picksIn w s (h .level) levels) (inHand (h .«held_node») (s .«nodes_taken»))
+
+-- Put: of a word met, as Read
+unfoldable pub puts : ℕ → Settings → Head → Memory → Bool
+puts w s h m = both (picksWith w s h (m .levels)) (exchanges w h (entryOf w h (m .levels)) true (λ word. comparesRef s word (m .nodes)) m)
 
 -- Read: H, the entry, and the pixel of a node in it
 unfoldable pub reads : ℕ → Settings → Head → Memory → Bool
 reads w s h m = both (picksIn w s (h .level) (m .levels)) (comparesRef s (cellAt w m (entryOf w h (m .levels))) (m .nodes))
 
--- Append: H and R, and the node in hand
-unfoldable pub appends : Settings → Head → Bool
-appends s h = both (standsAt s h) (inHand (h .«held_node») (s .«nodes_taken»))
+-- Append: H and R, and the node in hand; of a word met, as Follow
+unfoldable pub appends : ℕ → Settings → Head → Memory → Bool
+appends w s h m =
+    both (standsWith s h (h .«held_node») (s .«nodes_taken»)) (exchanges w h (Next (h .node)) true (λ word. followsRef w s h word m) m)
+
+-- Close: H and R, and the level in hand; of a word met, as Follow
+unfoldable pub closes : ℕ → Settings → Head → Memory → Bool
+closes w s h m =
+    both (standsWith s h (h .«held_level») (s .«levels_taken»)) (exchanges w h (Next (h .node)) true (λ word. followsRef w s h word m) m)
 
 -- Follow: H and R, R's next, the pixel of a node there, the way back from a level
 unfoldable pub follows : ℕ → Settings → Head → Memory → Bool
-follows w s h m =
-    both (standsAt s h)
-    (both (comparesRef s (nextAt (m .nodes) (h .node)) (m .nodes)) (goesBack w (s .«levels_taken») (h .level) (nextAt (m .nodes) (h .node)) (m .levels)))
+follows w s h m = both (standsAt s h) (followsRef w s h (nextAt (m .nodes) (h .node)) m)
 
 -- ChainHead, MoveEnd: the entry of the key in H
 unfoldable pub picksHome : ℕ → Settings → Move → List Move → Memory → Bool
@@ -152,37 +181,44 @@ unfoldable pub setNexts : Settings → Head → ℕ → Bool
 setNexts s h n = both (nodeTaken s n) (levelTaken s (h .level))
 
 -- SetLook, SetPut, SetRead: the entry of N's pixel
-unfoldable pub setPuts : ℕ → Settings → Head → ℕ → Memory → Bool
-setPuts w s h n m = both (picksIn w s (h .level) (m .levels)) (pixelFits s n (m .nodes))
+unfoldable pub setEntry : ℕ → Settings → Head → ℕ → Memory → Bool
+setEntry w s h n m = both (picksIn w s (h .level) (m .levels)) (pixelFits s n (m .nodes))
 
 -- SetLook, SetRead: the word in that entry too
 unfoldable pub setLooks : ℕ → Settings → Head → ℕ → Memory → Bool
-setLooks w s h n m = both (setPuts w s h n m) (readsRef w s (setCellOf w h n m) m)
+setLooks w s h n m = both (setEntry w s h n m) (readsRef w s (setCellOf w h n m) m)
 
--- SetAppend: the level, R, and N
-unfoldable pub setAppends : Settings → Head → ℕ → Bool
-setAppends s h n = both (standsAt s h) (nodeTaken s n)
+-- SetPut: the entry of N's pixel; of a word met, as SetRead
+unfoldable pub setPuts : ℕ → Settings → Head → ℕ → Memory → Bool
+setPuts w s h n m = both (setEntry w s h n m) (exchanges w h (setCellOf w h n m) true (refTaken s) m)
 
--- SetClose: the level, R, the level in hand, and room for a Move inside
-unfoldable pub setCloses : ℕ → Settings → Head → List Move → List ℕ → Bool
-setCloses w s h ms nodes = both (closes s h) (moveLeft w h ms nodes)
+-- SetAppend: the level, R, and N; of a word met, as SetFollow
+unfoldable pub setAppends : ℕ → Settings → Head → ℕ → Memory → Bool
+setAppends w s h n m =
+    both (standsSetting s h n) (exchanges w h (Next (h .node)) true (λ word. setFollowsRef w s h word (m .levels)) m)
+
+-- SetClose: the level, R, the level in hand, and room for a Move inside; of a word met, as SetFollow
+unfoldable pub setCloses : ℕ → Settings → Head → List Move → Memory → Bool
+setCloses w s h ms m =
+    both (standsWith s h (h .«held_level») (s .«levels_taken»))
+    (exchanges w h (Next (h .node)) (moveLeft w ms) (λ word. setFollowsRef w s h word (m .levels)) m)
 
 -- SetFollow: the level, R, R's next, the way back from a level
 unfoldable pub setFollows : ℕ → Settings → Head → Memory → Bool
-setFollows w s h m = both (tails s h (m .nodes)) (goesBack w (s .«levels_taken») (h .level) (nextAt (m .nodes) (h .node)) (m .levels))
+setFollows w s h m = both (standsAt s h) (setFollowsRef w s h (nextAt (m .nodes) (h .node)) (m .levels))
 
 -- what question 6 asks of a turn besides that the record fits, by kind
 unfoldable pub readsBy : Kind → ℕ → Settings → Head → List Move → Memory → Bool
 readsBy Idle w s h ms m = true
 readsBy Look w s h ms m = looks w s h m
 readsBy Take w s h ms m = takes s h
-readsBy Put w s h ms m = puts w s h (m .levels)
+readsBy Put w s h ms m = puts w s h m
 readsBy Read w s h ms m = reads w s h m
 readsBy Tail w s h ms m = tails s h (m .nodes)
 readsBy TakeTail w s h ms m = takes s h
-readsBy Append w s h ms m = appends s h
+readsBy Append w s h ms m = appends w s h m
 readsBy Level w s h ms m = takesLevel w s h (m .levels)
-readsBy Close w s h ms m = closes s h
+readsBy Close w s h ms m = closes w s h m
 readsBy Follow w s h ms m = follows w s h m
 readsBy ChainHead w s h ms m = chainHeads w s h (inner ms) (outer ms) m
 readsBy ChainNext w s h ms m = chainNexts s (inner ms) (m .nodes)
@@ -191,9 +227,9 @@ readsBy SetLook w s h ms m = setLooks w s h (lastNode (inner ms)) m
 readsBy SetPut w s h ms m = setPuts w s h (lastNode (inner ms)) m
 readsBy SetRead w s h ms m = setLooks w s h (lastNode (inner ms)) m
 readsBy SetTail w s h ms m = tails s h (m .nodes)
-readsBy SetAppend w s h ms m = setAppends s h (lastNode (inner ms))
+readsBy SetAppend w s h ms m = setAppends w s h (lastNode (inner ms)) m
 readsBy SetLevel w s h ms m = takesLevel w s h (m .levels)
-readsBy SetClose w s h ms m = setCloses w s h ms (m .nodes)
+readsBy SetClose w s h ms m = setCloses w s h ms m
 readsBy SetFollow w s h ms m = setFollows w s h m
 readsBy MoveEnd w s h ms m = moveEnds w s (inner ms) (outer ms) m
 readsBy Unknown w s h ms m = true

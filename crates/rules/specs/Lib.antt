@@ -14,6 +14,7 @@ pub mod Calls
 pub mod Refusals
 pub mod Excess
 pub mod Access
+pub mod FailedExchange
 pub mod OwnRecord
 pub mod Closes
 pub mod Openings

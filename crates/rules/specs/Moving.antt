@@ -9,12 +9,11 @@ use Rattle.settings.specs.declared.Settings.{Settings}
 use Rattle.areas.specs.Memory.{Memory, levelRef, nodeRef, isNode, named, pixelAt, nextAt, entryCell, cellAt, setCell}
 use Rattle.areas.specs.declared.Cell.{Cell}
 use Rattle.areas.specs.declared.Cell.the-variants.{Next}
-use Rattle.record.specs.declared.Kind.{Kind}
 use Rattle.record.specs.declared.Kind.the-variants.{Look, ChainNext, SetNext, SetLook, SetPut, SetRead, SetTail, SetAppend, SetLevel, SetClose, SetFollow, MoveEnd}
 use Rattle.record.specs.declared.Head.{Head}
 use Rattle.record.specs.declared.Move.{Move}
 use Rattle.rules.specs.Heads.{to, toLevel, toNode, lastNode, remember, forget}
-use Rattle.rules.specs.Steps.{Step, going, expected, peeked, byCount, more, takeLevel, closed, childOf}
+use Rattle.rules.specs.Steps.{Step, going, peeked, byCount, more, takeLevel, exchanging, closed, childOf}
 
 -- the key of a Move: the call's pixel, and of "a Move inside this Move keyed by N's pixel" that of the outer N
 unfoldable pub keyOf : Head → List Move → List ℕ → ℕ
@@ -50,12 +49,9 @@ unfoldable pub setFollowWord : ℕ → Settings → Head → Move → List Move 
 setFollowWord w s h v os word m =
     setMet s h v os (more s (h .count)) (childOf w (m .levels) (depths w - 1) (h .level) (named word)) word m
 
--- SetPut and SetAppend: "if it is G, exchange it to N, done"; else the next kind
-unfoldable pub setNode : ℕ → Kind → Settings → Head → Move → List Move → Cell → Memory → Step
-setNode w failed s h v os x m =
-    pick (expected h (cellAt w m x))
-    (setLast s h (forget v) os (setCell w m x (nodeRef (lastNode v))))
-    (going s (to failed h) (v ∷ os) m)
+-- SetPut and SetAppend: "if it is G, exchange it to N, done"
+unfoldable pub setNode : ℕ → (ℕ → Memory → Step) → Settings → Head → Move → List Move → Cell → Memory → Step
+setNode w failed s h v os x m = exchanging w h x (nodeRef (lastNode v)) (setLast s h (forget v) os) failed m
 
 -- ChainHead: "Move reads the entry of K in H"
 unfoldable pub chainHead : ℕ → Settings → Head → Move → List Move → Memory → Step
@@ -69,15 +65,15 @@ chainNext w s h v os m = chainWord s h v os (nextAt (m .nodes) (lastNode v)) m
 unfoldable pub setNext : ℕ → Settings → Head → Move → List Move → Memory → Step
 setNext w s h v os m = going s (to SetLook h) (v ∷ os) (setCell w m (Next (lastNode v)) (levelRef (h .level)))
 
--- SetLook: "read N's entry in G; if it is G, exchange it to N"; "failed or not G: read the entry again"
+-- SetLook: "read N's entry in G; if it is G, exchange it to N"; ".. not G: read the entry again"
 unfoldable pub setLook : ℕ → Settings → Head → Move → List Move → Memory → Step
 setLook w s h v os m = going s (peeked h (cellAt w m (setCellOf w h (lastNode v) m)) SetPut SetRead) (v ∷ os) m
 
--- SetPut: "exchange it to N, done"
+-- SetPut: "exchange it to N, done"; document 02, of a failed exchange: "the same inside a Move", as SetRead does with the word met
 unfoldable pub setPut : ℕ → Settings → Head → Move → List Move → Memory → Step
-setPut w s h v os m = setNode w SetRead s h v os (setCellOf w h (lastNode v) m) m
+setPut w s h v os m = setNode w (setReadWord s h v os) s h v os (setCellOf w h (lastNode v) m) m
 
--- SetRead: "failed or not G: read the entry again"
+-- SetRead: ".. not G: read the entry again"
 unfoldable pub setRead : ℕ → Settings → Head → Move → List Move → Memory → Step
 setRead w s h v os m = setReadWord s h v os (cellAt w m (setCellOf w h (lastNode v) m)) m
 
@@ -86,19 +82,19 @@ unfoldable pub setTail : ℕ → Settings → Head → Move → List Move → Me
 setTail w s h v os m =
     going s (peeked h (nextAt (m .nodes) (h .node)) (byCount s (h .count) SetAppend SetLevel SetFollow) SetFollow) (v ∷ os) m
 
--- SetAppend: "if G and below the limit, exchange it to N, done"
+-- SetAppend: "if G and below the limit, exchange it to N, done"; failed, as SetFollow does with the word met
 unfoldable pub setAppend : ℕ → Settings → Head → Move → List Move → Memory → Step
-setAppend w s h v os m = setNode w SetFollow s h v os (Next (h .node)) m
+setAppend w s h v os m = setNode w (setFollowWord w s h v os) s h v os (Next (h .node)) m
 
 -- SetLevel: "if G and at the limit, Level and Close as above"
 unfoldable pub setLevel : ℕ → Settings → Head → Move → List Move → Memory → Step
 setLevel w s h v os m = takeLevel w SetClose s h (v ∷ os) m
 
--- SetClose: "Level and Close as above, a Move inside this Move keyed by N's pixel"
+-- SetClose: "Level and Close as above, a Move inside this Move keyed by N's pixel"; failed, as SetFollow does with the word met
 unfoldable pub setClose : ℕ → Settings → Head → Move → List Move → Memory → Step
-setClose w s h v os m = closed w SetFollow s h (v ∷ os) m
+setClose w s h v os m = closed w (setFollowWord w s h v os) s h (v ∷ os) m
 
--- SetFollow: "failed, not G, or the count past the limit: read R's next again"
+-- SetFollow: ".. not G, or the count past the limit: read R's next again"
 unfoldable pub setFollow : ℕ → Settings → Head → Move → List Move → Memory → Step
 setFollow w s h v os m = setFollowWord w s h v os (nextAt (m .nodes) (h .node)) m
 

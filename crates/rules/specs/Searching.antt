@@ -6,26 +6,26 @@ use lib.Dec.{eqb}
 use Rattle.words.specs.Choice.{pick}
 use Rattle.words.specs.Digits.{depths}
 use Rattle.settings.specs.declared.Settings.{Settings}
-use Rattle.areas.specs.Memory.{Memory, nodeRef, isNode, named, pixelAt, nextAt, entryCell, cellAt, setCell}
+use Rattle.areas.specs.Memory.{Memory, nodeRef, isNode, named, pixelAt, nextAt, entryCell, cellAt}
 use Rattle.areas.specs.declared.Cell.{Cell}
 use Rattle.areas.specs.declared.Cell.the-variants.{Next}
-use Rattle.record.specs.declared.Kind.{Kind}
 use Rattle.record.specs.declared.Kind.the-variants.{Look, Take, Put, Read, Tail, TakeTail, Append, Level, Close, Follow}
 use Rattle.record.specs.declared.Answer.the-variants.{New, Found}
 use Rattle.record.specs.declared.Head.{Head}
-use Rattle.rules.specs.Heads.{to, toLevel, toNode, ended}
-use Rattle.rules.specs.Steps.{Step, step, going, expected, peeked, byCount, more, takeNode, takeLevel, closed, childOf}
+use Rattle.rules.specs.Heads.{toLevel, toNode, ended}
+use Rattle.rules.specs.Steps.{Step, step, going, peeked, byCount, more, takeNode, takeLevel, exchanging, closed, childOf}
 
 -- K's entry in H
 unfoldable pub entryOf : ℕ → Head → List ℕ → Cell
 entryOf w h levels = entryCell w levels (h .level) (h .pixel)
 
--- Put and Append: "exchange the entry from H to the node. Done: ends "new". Failed: the node is now spare"
-unfoldable pub placed : ℕ → Kind → Settings → Head → Cell → Memory → Step
-placed w failed s h x m =
-    pick (expected h (cellAt w m x))
-    (step (New (h .«held_node» - 1)) s (ended 1 (h .«held_node» - 1) 0 h) [] (setCell w m x (nodeRef (h .«held_node» - 1))))
-    (going s (to failed h) [] m)
+-- "Done: ends "new"."
+abbrev pub endsNew : Settings → Head → Memory → Step
+endsNew s h m = step (New (h .«held_node» - 1)) s (ended 1 (h .«held_node» - 1) 0 h) [] m
+
+-- Put and Append: "exchange the entry from H to the node."
+unfoldable pub placed : ℕ → (ℕ → Memory → Step) → Settings → Head → Cell → Memory → Step
+placed w failed s h x m = exchanging w h x (nodeRef (h .«held_node» - 1)) (endsNew s h) failed m
 
 -- "Node R with pixel K: ends "found". Other node: Tail" with count c
 unfoldable pub metNode : Settings → Head → ℕ → ℕ → Memory → Step
@@ -54,9 +54,9 @@ look w s h m = going s (peeked h (cellAt w m (entryOf w h (m .levels))) Take Rea
 unfoldable pub take : Settings → Head → Memory → Step
 take s h m = takeNode Put s h m
 
--- "Put: exchange the entry from H to the node. .. Failed: the node is now spare; Read."
+-- "Put: exchange the entry from H to the node."; document 02: "After a failed Put the call acts on that word as Read does, in the same turn"
 unfoldable pub put : ℕ → Settings → Head → Memory → Step
-put w s h m = placed w Read s h (entryOf w h (m .levels)) m
+put w s h m = placed w (readWord s h) s h (entryOf w h (m .levels)) m
 
 -- "Read: read the entry again."
 unfoldable pub read : ℕ → Settings → Head → Memory → Step
@@ -66,21 +66,21 @@ read w s h m = readWord s h (cellAt w m (entryOf w h (m .levels))) m
 unfoldable pub tail : ℕ → Settings → Head → Memory → Step
 tail w s h m = going s (peeked h (nextAt (m .nodes) (h .node)) (byCount s (h .count) TakeTail Level Follow) Follow) [] m
 
--- "TakeTail, Append: as Take and Put, on R's next; failed Append goes to Follow."
+-- "TakeTail, Append: as Take and Put, on R's next"
 unfoldable pub takeTail : Settings → Head → Memory → Step
 takeTail s h m = takeNode Append s h m
 
--- Append: exchange R's next from H to the node
+-- Append: exchange R's next from H to the node; document 02: "after a failed Append or Close as Follow does"
 unfoldable pub append : ℕ → Settings → Head → Memory → Step
-append w s h m = placed w Follow s h (Next (h .node)) m
+append w s h m = placed w (followWord w s h) s h (Next (h .node)) m
 
 -- "Level: take the spare level, else the next number; write previous H, depth + 1, entries to itself. Then Close."
 unfoldable pub level : ℕ → Settings → Head → Memory → Step
 level w s h m = takeLevel w Close s h [] m
 
--- "Close: exchange R's next from H to the new level G. Done: Move H's chain to G, then Look at G. Failed: G is spare; Follow."
+-- "Close: exchange R's next from H to the new level G. Done: Move H's chain to G, then Look at G."; document 02: "after a failed Append or Close as Follow does"
 unfoldable pub close : ℕ → Settings → Head → Memory → Step
-close w s h m = closed w Follow s h [] m
+close w s h m = closed w (followWord w s h) s h [] m
 
 -- "Follow: read R's next again."
 unfoldable pub follow : ℕ → Settings → Head → Memory → Step

@@ -6,7 +6,8 @@ use mathlib.Core.List.{List, [], _∷_}
 use lib.Dec.{eqb, ltb, leb}
 use Rattle.words.specs.Choice.{pick, both}
 use Rattle.settings.specs.declared.Settings.{Settings}
-use Rattle.areas.specs.Memory.{Memory, memory, levelRef, nextAt, previousAt, depthAt, setCell, fillNode, fillLevel}
+use Rattle.areas.specs.Memory.{Memory, memory, levelRef, previousAt, depthAt, Exchanged, exchange, fillNode, fillLevel}
+use Rattle.areas.specs.declared.Cell.{Cell}
 use Rattle.areas.specs.declared.Cell.the-variants.{Next}
 use Rattle.record.specs.declared.Kind.{Kind}
 use Rattle.record.specs.declared.Kind.the-variants.{ChainHead}
@@ -80,12 +81,20 @@ takeLevel w k s h ms m =
     (withLevel w k (tookLevel s) h ms (s .«levels_taken») m)
     (withLevel w k s h ms (h .«held_level» - 1) m)
 
--- Close, SetClose: "exchange R's next from H to the new level G. Done: Move H's chain to G", else G is spare
-unfoldable pub closed : ℕ → Kind → Settings → Head → List Move → Memory → Step
-closed w failed s h ms m =
-    pick (expected h (nextAt (m .nodes) (h .node)))
-    (going s (holdingLevel ChainHead 0 h) (newMove (h .level) (h .«held_level» - 1) ∷ ms) (setCell w m (Next (h .node)) (levelRef (h .«held_level» - 1))))
-    (going s (to failed h) ms m)
+-- Put, Append, Close and those of a Move: cell x is exchanged from the worker's level to b. Done: one step; failed: another, made of the word that it met.
+-- What is in hand stays in the record and is spare then: "Failed: the node is now spare"
+unfoldable pub exchanging : ℕ → Head → Cell → ℕ → (Memory → Step) → (ℕ → Memory → Step) → Memory → Step
+exchanging w h x b done failed m =
+    let e : Exchanged = exchange w m x (levelRef (h .level)) b in
+    pick (expected h (e .word)) (done (e .memory)) (failed (e .word) (e .memory))
+
+-- "Done: Move H's chain to G"
+abbrev pub beginsMove : Settings → Head → List Move → Memory → Step
+beginsMove s h ms m = going s (holdingLevel ChainHead 0 h) (newMove (h .level) (h .«held_level» - 1) ∷ ms) m
+
+-- Close, SetClose: "exchange R's next from H to the new level G."
+unfoldable pub closed : ℕ → (ℕ → Memory → Step) → Settings → Head → List Move → Memory → Step
+closed w failed s h ms m = exchanging w h (Next (h .node)) (levelRef (h .«held_level» - 1)) (beginsMove s h ms) failed m
 
 -- Follow, SetFollow: "go back by previous words until the one whose previous is H"; n previous words may be read
 unfoldable pub childOf : ℕ → List ℕ → ℕ → ℕ → ℕ → ℕ

@@ -9,10 +9,11 @@ use lib.Dec.{eqb, leb}
 use borrow.Author.Tests.{ltb-true, leb-true}
 use Rattle.words.specs.Choice.{both}
 use Rattle.words.specs.Digits.{maxPixel}
-use Rattle.words.proofs.Choice.{true-false, pick-both, pick-true, both-left, both-right}
+use Rattle.words.proofs.Choice.{true-false, pick-both, pick-true, pick-false, both-left, both-right}
 use Rattle.settings.specs.declared.Settings.{Settings}
-use Rattle.areas.specs.Memory.{Areas, Memory, isNode, nodeTaken}
+use Rattle.areas.specs.Memory.{Areas, Memory, isNode, cellAt, nodeTaken}
 use Rattle.areas.specs.declared.Cell.{Cell}
+use Rattle.areas.specs.declared.Cell.the-variants.{Next}
 use Rattle.record.specs.declared.Answer.{Answer}
 use Rattle.record.specs.declared.Answer.the-variants.{Nothing, New, Found, Full, Open}
 use Rattle.record.specs.declared.Kind.{Kind}
@@ -26,8 +27,9 @@ use Rattle.rules.specs.Steps.{Step, expected, withNode, takeNode, withLevel, ta
 use Rattle.rules.specs.Searching as searching
 use Rattle.rules.specs.Moving as moving
 use Rattle.rules.specs.Acts.{actBy, act}
-use Rattle.rules.specs.Asked.{inHand, pixelFits, comparesRef, puts, reads, appends, follows, readsBy, question6, question7}
+use Rattle.rules.specs.Asked.{inHand, pixelFits, comparesRef, followsRef, exchanges, standsWith, picksWith, puts, reads, appends, closes, follows, readsBy, question6, question7}
 use Rattle.rules.specs.Operations.{recordOf, memoryOf}
+use Rattle.rules.proofs.Exchanging.{exchange-both}
 use Rattle.rules.proofs.TurnAsked.{TurnAsked}
 
 -- the node of an answer is below n
@@ -42,14 +44,6 @@ module _ (w : ℕ) (s : Settings) (h : Head) (m : Memory) where
   abbrev Below : Step → Type 0
   Below t = NodeBelow (s .«nodes_taken») (t .answer)
 
-  -- Put, Append: the node in hand is taken
-  placed-below : (k : Kind) (x : Cell) → inHand (h .«held_node») (s .«nodes_taken») ≡ true → Below (searching.placed w k s h x m)
-  unfolding NodeBelow searching.placed inHand
-  placed-below k x y =
-      let l : 1 ≤ h .«held_node» = leb-true _ _ (both-left _ _ y) in
-      let u : h .«held_node» ≤ s .«nodes_taken» = leb-true _ _ (both-right (leb 1 (h .«held_node»)) _ y) in
-      pick-both Below (expected h _) (λ e. omega arith) (λ e. tt)
-
   -- Read, Follow: the node met is taken
   met-below : (c g word : ℕ) → comparesRef s word (m .nodes) ≡ true → Below (searching.met s h c g word m)
   unfolding NodeBelow searching.met searching.metNode comparesRef pixelFits nodeTaken
@@ -57,6 +51,19 @@ module _ (w : ℕ) (s : Settings) (h : Head) (m : Memory) where
       pick-both Below (isNode word)
       (λ e. pick-both Below (eqb _ (h .pixel)) (λ q. ltb-true _ _ (both-left _ _ (sym (pick-true _ _ _ e) ∙ y))) (λ q. tt))
       (λ e. tt)
+
+  -- the word of a failed exchange is asked
+  word-asked : (x : Cell) (asks : ℕ → Bool) → exchanges w h x true asks m ≡ true → expected h (cellAt w m x) ≡ false → asks (cellAt w m x) ≡ true
+  unfolding exchanges
+  word-asked x asks y e = sym (pick-false _ _ _ e) ∙ y
+
+  -- Put, Append: the node in hand is taken
+  placed-below : (failed : ℕ → Memory → Step) (x : Cell) → inHand (h .«held_node») (s .«nodes_taken») ≡ true → (expected h (cellAt w m x) ≡ false → Below (failed (cellAt w m x) m)) → Below (searching.placed w failed s h x m)
+  unfolding NodeBelow searching.placed inHand
+  placed-below failed x y f =
+      let l : 1 ≤ h .«held_node» = leb-true _ _ (both-left _ _ y) in
+      let u : h .«held_node» ≤ s .«nodes_taken» = leb-true _ _ (both-right (leb 1 (h .«held_node»)) _ y) in
+      exchange-both Below w h x _ _ failed m (λ e. omega arith) f
 
   take-below : (k : Kind) → Below (takeNode k s h m)
   unfolding NodeBelow takeNode withNode
@@ -66,42 +73,42 @@ module _ (w : ℕ) (s : Settings) (h : Head) (m : Memory) where
   unfolding NodeBelow takeLevel withLevel
   level-below k ms = pick-both Below (eqb (h .«held_level») 0) (λ e. tt) (λ e. tt)
 
-  closed-below : (k : Kind) (ms : List Move) → Below (closed w k s h ms m)
+  closed-below : (failed : ℕ → Memory → Step) (ms : List Move) → (expected h (cellAt w m (Next (h .node))) ≡ false → Below (failed (cellAt w m (Next (h .node))) m)) → Below (closed w failed s h ms m)
   unfolding NodeBelow closed
-  closed-below k ms = pick-both Below (expected h _) (λ e. tt) (λ e. tt)
+  closed-below failed ms f = exchange-both Below w h (Next (h .node)) _ _ failed m (λ e. tt) f
 
   chain-below : (v : Move) (os : List Move) (word : ℕ) → Below (moving.chainWord s h v os word m)
   unfolding NodeBelow moving.chainWord moving.setLast
   chain-below v os word = pick-both Below (isNode word) (λ e. tt) (λ e. tt)
 
-  set-below : (k : Kind) (v : Move) (os : List Move) (x : Cell) → Below (moving.setNode w k s h v os x m)
+  set-below : (failed : ℕ → Memory → Step) (v : Move) (os : List Move) (x : Cell) → Below (failed (cellAt w m x) m) → Below (moving.setNode w failed s h v os x m)
   unfolding NodeBelow moving.setNode moving.setLast
-  set-below k v os x = pick-both Below (expected h _) (λ e. tt) (λ e. tt)
+  set-below failed v os x f = exchange-both Below w h x _ _ failed m (λ e. tt) (λ e. f)
 
   -- by kind
   kind-below : (k : Kind) (ms : List Move) → readsBy k w s h ms m ≡ true → Below (actBy k w s h ms m)
-  unfolding NodeBelow actBy readsBy puts reads appends follows searching.look searching.take searching.put searching.read searching.readWord searching.tail searching.takeTail searching.append searching.level searching.close searching.follow searching.followWord moving.chainHead moving.chainNext moving.setNext moving.setLook moving.setPut moving.setRead moving.setReadWord moving.setMet moving.setTail moving.setAppend moving.setLevel moving.setClose moving.setFollow moving.setFollowWord moving.moveEnd
+  unfolding NodeBelow actBy readsBy puts picksWith reads appends closes follows standsWith followsRef searching.look searching.take searching.put searching.read searching.readWord searching.tail searching.takeTail searching.append searching.level searching.close searching.follow searching.followWord moving.chainHead moving.chainNext moving.setNext moving.setLook moving.setPut moving.setRead moving.setReadWord moving.setMet moving.setTail moving.setAppend moving.setLevel moving.setClose moving.setFollow moving.setFollowWord moving.moveEnd
   kind-below Idle ms y = tt
   kind-below Look ms y = tt
   kind-below Take ms y = take-below Put
-  kind-below Put ms y = placed-below Read _ (both-right _ _ y)
+  kind-below Put ms y = placed-below _ _ (both-right _ _ (both-left _ _ y)) (λ e. met-below 1 _ _ (word-asked _ _ (both-right _ _ y) e))
   kind-below Read ms y = met-below 1 _ _ (both-right _ _ y)
   kind-below Tail ms y = tt
   kind-below TakeTail ms y = take-below Append
-  kind-below Append ms y = placed-below Follow _ (both-right _ _ y)
+  kind-below Append ms y = placed-below _ _ (both-right _ _ (both-left _ _ y)) (λ e. met-below _ _ _ (both-left _ _ (word-asked _ _ (both-right _ _ y) e)))
   kind-below Level ms y = level-below Close []
-  kind-below Close ms y = closed-below Follow []
+  kind-below Close ms y = closed-below _ [] (λ e. met-below _ _ _ (both-left _ _ (word-asked _ _ (both-right _ _ y) e)))
   kind-below Follow ms y = met-below _ _ _ (both-left _ _ (both-right _ _ y))
   kind-below ChainHead ms y = chain-below _ _ _
   kind-below ChainNext ms y = chain-below _ _ _
   kind-below SetNext ms y = tt
   kind-below SetLook ms y = tt
-  kind-below SetPut ms y = set-below SetRead _ _ _
+  kind-below SetPut ms y = set-below _ _ _ _ tt
   kind-below SetRead ms y = tt
   kind-below SetTail ms y = tt
-  kind-below SetAppend ms y = set-below SetFollow _ _ _
+  kind-below SetAppend ms y = set-below _ _ _ _ tt
   kind-below SetLevel ms y = level-below SetClose _
-  kind-below SetClose ms y = closed-below SetFollow _
+  kind-below SetClose ms y = closed-below _ _ (λ e. tt)
   kind-below SetFollow ms y = tt
   kind-below MoveEnd ms y = tt
   kind-below Unknown ms y = tt

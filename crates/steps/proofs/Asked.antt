@@ -14,40 +14,18 @@ use Rattle.words.proofs.Choice.{via, both-left, both-right}
 use Rattle.settings.specs.declared.Settings.{Settings}
 use Rattle.settings.specs.Sizes.{levelCount}
 use Rattle.settings.specs.Cut.{Sized}
-use Rattle.areas.specs.declared.Cell.{Cell}
-use Rattle.areas.specs.Memory.{Memory, isNode, named, depthAt, cellAt, levelTaken, refTaken}
+use Rattle.areas.specs.Memory.{isNode, named, depthAt, levelTaken}
 use Rattle.record.specs.declared.Head.{Head}
-use Rattle.rules.specs.Steps.{backMeets}
-use Rattle.rules.specs.Asked.{inHand, spare, pixelFits, readsRef, comparesRef, goesBack, levelLeft, standsAt, takesLevel, closes}
+use Rattle.rules.specs.Asked.{inHand, spare, picksIn, pixelFits, comparesRef, levelLeft, standsAt, standsWith, picksWith, takesLevel}
 
 -- two tests
 pub ask-both : {r a b c d : Bool} → r ≡ both a b → b ≡ d → a ≡ c → r ≡ both c d
 ask-both p q e = simp (p, q, e)
 
--- a test, and a word that names a taken node or level
-pub ask-named : (s : Settings) {r a b c : Bool} {v u : ℕ} → r ≡ both a b → b ≡ refTaken s v → v ≡ u → a ≡ c → r ≡ both c (refTaken s u)
-ask-named s p q e f = simp (p, q, e, f)
-
 -- a test, and a word that is at most k
 pub ask-most :
     (k : ℕ) {r a b c : Bool} {v u : ℕ} → r ≡ both a b → b ≡ leb v k → v ≡ u → a ≡ c → r ≡ both c (leb u k)
 ask-most k p q e f = simp (p, q, e, f)
-
-module _ (w : ℕ) (s : Settings) (m : Memory) (y : Cell) where
-  -- a cell whose word names a taken node or level
-  pub ask-ref : {r : Bool} {v : ℕ} → r ≡ refTaken s v → v ≡ cellAt w m y → r ≡ readsRef w s y m
-  unfolding readsRef
-  ask-ref p q = simp (p, q)
-
-  -- a test, and such a cell
-  pub ask-cell : {r a b c : Bool} {x : Cell} → r ≡ both a b → b ≡ readsRef w s x m → x ≡ y → a ≡ c → r ≡ both c (readsRef w s y m)
-  ask-cell p q e f = simp (p, q, e, f)
-
-  -- a test, and a cell whose word is compared
-  pub ask-compared :
-      (n : List ℕ) {r a b c : Bool} {x : Cell} {v : ℕ}
-      → r ≡ both a b → b ≡ comparesRef s v n → v ≡ cellAt w m x → x ≡ y → a ≡ c → r ≡ both c (comparesRef s (cellAt w m y) n)
-  ask-compared n p q d e f = simp (p, q, d, e, f)
 
 -- a word that is compared: a node's pixel word is read
 module _ (s : Settings) (word : ℕ) (nodes : List ℕ) where
@@ -58,18 +36,6 @@ module _ (s : Settings) (word : ℕ) (nodes : List ℕ) where
   pub compares-level : {r : Bool} {n : ℕ} → r ≡ levelTaken s n → n ≡ named word → isNode word ≡ false → r ≡ comparesRef s word nodes
   unfolding comparesRef pick
   compares-level a b e = simp (e, a, b)
-
--- a word that is followed: from a level the way goes back
-module _ (w taken level word : ℕ) (levels : List ℕ) where
-  pub goes-node : isNode word ≡ true → true ≡ goesBack w taken level word levels
-  unfolding goesBack pick
-  goes-node e = simp e
-
-  pub goes-level :
-      {r : Bool} {n : ℕ}
-      → r ≡ backMeets w taken levels (depths w - 1) level n → n ≡ named word → isNode word ≡ false → r ≡ goesBack w taken level word levels
-  unfolding goesBack pick
-  goes-level a b e = simp (e, a, b)
 
 -- a depth is one less than the last where one more is at most the last
 pub less-deep : (d k : ℕ) → leb (d + 1) (k + 1) ≡ leb d k
@@ -111,24 +77,53 @@ held-most s n e z =
     let l : s .«levels_taken» ≤ 28689 = z .levels in
     omega arith
 
-module _ (s : Settings) (h : Head) {r : Bool} where
-  -- a node in hand, after any test: Put, Append
-  pub in-hand-one : (b : Bool) → r ≡ both b (inHand (h .«held_node») (s .«nodes_taken»)) → r ≡ true → 1 ≤ h .«held_node»
+-- a node in hand
+module _ (s : Settings) (held : ℕ) where
+  in-hand-one : inHand held (s .«nodes_taken») ≡ true → 1 ≤ held
   unfolding inHand
-  in-hand-one b a e = leb-true _ _ (both-left _ _ (both-right b _ (via a e)))
+  in-hand-one e = leb-true _ _ (both-left _ _ e)
 
-  pub in-hand-most : (b : Bool) → r ≡ both b (inHand (h .«held_node») (s .«nodes_taken»)) → r ≡ true → Sized s → h .«held_node» ≤ 4096
+  in-hand-less : inHand held (s .«nodes_taken») ≡ true → Sized s → held - 1 ≤ 4096
   unfolding inHand
-  in-hand-most b a e z = node-most s (h .«held_node») (both-right (leb 1 (h .«held_node»)) _ (both-right b _ (via a e))) z
+  in-hand-less e z = let n = node-most s held (both-right (leb 1 held) _ e) z in omega arith
+
+module _ (s : Settings) (h : Head) {r : Bool} where
+  -- the level is taken: Put; Append, Close, SetClose
+  pub picks-most : (w : ℕ) (levels : List ℕ) → r ≡ picksWith w s h levels → r ≡ true → Sized s → h .level ≤ 28689
+  unfolding picksWith picksIn
+  picks-most w levels a e z = level-most s (h .level) (both-left _ _ (both-left _ (inHand (h .«held_node») (s .«nodes_taken»)) (via a e))) z
+
+  pub stands-most : (held taken : ℕ) → r ≡ standsWith s h held taken → r ≡ true → Sized s → h .level ≤ 28689
+  unfolding standsWith standsAt
+  stands-most held taken a e z = level-most s (h .level) (both-left _ _ (both-left _ (inHand held taken) (via a e))) z
+
+  -- a node in hand: Put; Append
+  pub picks-one : (w : ℕ) (levels : List ℕ) → r ≡ picksWith w s h levels → r ≡ true → 1 ≤ h .«held_node»
+  unfolding picksWith
+  picks-one w levels a e = in-hand-one s (h .«held_node») (both-right (picksIn w s (h .level) levels) _ (via a e))
+
+  pub picks-less : (w : ℕ) (levels : List ℕ) → r ≡ picksWith w s h levels → r ≡ true → Sized s → h .«held_node» - 1 ≤ 4096
+  unfolding picksWith
+  picks-less w levels a e z = in-hand-less s (h .«held_node») (both-right (picksIn w s (h .level) levels) _ (via a e)) z
+
+  pub node-one : r ≡ standsWith s h (h .«held_node») (s .«nodes_taken») → r ≡ true → 1 ≤ h .«held_node»
+  unfolding standsWith
+  node-one a e = in-hand-one s (h .«held_node») (both-right (standsAt s h) _ (via a e))
+
+  pub node-less : r ≡ standsWith s h (h .«held_node») (s .«nodes_taken») → r ≡ true → Sized s → h .«held_node» - 1 ≤ 4096
+  unfolding standsWith
+  node-less a e z = in-hand-less s (h .«held_node») (both-right (standsAt s h) _ (via a e)) z
 
   -- a level in hand: Close, SetClose
-  pub closes-one : r ≡ closes s h → r ≡ true → 1 ≤ h .«held_level»
-  unfolding closes inHand
-  closes-one a e = leb-true _ _ (both-left _ _ (both-right (standsAt s h) _ (via a e)))
+  pub level-one : r ≡ standsWith s h (h .«held_level») (s .«levels_taken») → r ≡ true → 1 ≤ h .«held_level»
+  unfolding standsWith inHand
+  level-one a e = leb-true _ _ (both-left _ _ (both-right (standsAt s h) _ (via a e)))
 
-  pub closes-most : r ≡ closes s h → r ≡ true → Sized s → h .«held_level» ≤ 28689
-  unfolding closes inHand
-  closes-most a e z = held-most s (h .«held_level») (both-right (leb 1 (h .«held_level»)) _ (both-right (standsAt s h) _ (via a e))) z
+  pub level-less : r ≡ standsWith s h (h .«held_level») (s .«levels_taken») → r ≡ true → Sized s → h .«held_level» - 1 ≤ 28689
+  unfolding standsWith inHand
+  level-less a e z =
+      let n = held-most s (h .«held_level») (both-right (leb 1 (h .«held_level»)) _ (both-right (standsAt s h) _ (via a e))) z in
+      omega arith
 
   -- a level is taken: Level, SetLevel
   pub takes-held-level : (levels : List ℕ) → r ≡ takesLevel 3 s h levels → r ≡ true → Sized s → h .«held_level» ≤ 28689

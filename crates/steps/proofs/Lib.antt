@@ -2,5 +2,6 @@
 -- Relies on nothing.
 pub mod Asked
 pub mod Back
+pub mod Exchanges
 pub mod Steps
 pub mod Ties

@@ -3,22 +3,20 @@
 use mathlib.Core.Path.{_≡_, ap}
 use mathlib.Core.Bool.{true, false}
 use mathlib.Core.List.{List}
-use Prim.Native.Nat.{ℕ, _+_, _*_, _-_, _≤_}
+use Prim.Native.Nat.{ℕ, _+_, _≤_}
 use lib.Dec.{eqb, ltb}
-use lib.ListN.{set}
 use native.Mathlib.Omega.{arith}
 use mir.Syntax.{w32}
 use mir.Val.{Fits}
 use Rattle.words.specs.Choice.{pick}
 use Rattle.words.proofs.Choice.{pick-both}
 use Rattle.settings.specs.declared.Settings.{Settings}
-use Rattle.areas.specs.Memory.{levelRef, nextAt, depthAt, fillLevel}
+use Rattle.areas.specs.Memory.{levelRef, depthAt, fillLevel}
 use Rattle.record.specs.declared.Kind.{Kind}
-use Rattle.record.specs.declared.Kind.the-variants.{ChainHead}
 use Rattle.record.specs.declared.Head.{Head}
-use Rattle.rules.specs.Heads.{to, holdingLevel}
+use Rattle.rules.specs.Heads.{to}
 use Rattle.rules.specs.Steps.{expected, peeked, byCount, tookLevel}
-use Rattle.steps.specs.Cut.{LevelCut, levelCut, levelNo, levelCounted, takeLevelCut, closeCut, closedCut}
+use Rattle.steps.specs.Cut.{LevelCut, levelCut, levelNo, levelCounted, takeLevelCut}
 
 -- a cell is looked at
 module _ (h : Head) (word : ℕ) (here other : Kind) where
@@ -72,18 +70,3 @@ module _ (taken held : ℕ) where
     pub taken-fits : {g : ℕ} {l : List ℕ} → levelCut g l ≡ takeLevelCut w taken held level levels → taken ≤ 28689 → held ≤ 28689 → Fits w32 (g + 1)
     unfolding takeLevelCut
     taken-fits {g} a t n = let b : g ≤ 28689 = number-most (ap (λ (c : LevelCut). c .level) a) t n in record { fits = omega arith }
-
--- R's next is exchanged
-module _ (failed : Kind) (h : Head) (nodes : List ℕ) where
-  pub close-done :
-      {x : Head} {n : List ℕ} {r v : ℕ}
-      → x ≡ holdingLevel ChainHead 0 h → n ≡ set nodes (2 * h .node + 1) r → r ≡ levelRef (h .«held_level» - 1)
-      → v ≡ nextAt nodes (h .node) → eqb v (levelRef (h .level)) ≡ true → closeCut x (h .«held_level») n ≡ closedCut failed h nodes
-  unfolding closedCut expected pick
-  close-done a b c d e = simp (← d, e, a, b, c)
-
-  pub close-failed :
-      {x : Head} {v : ℕ}
-      → x ≡ to failed h → v ≡ nextAt nodes (h .node) → eqb v (levelRef (h .level)) ≡ false → closeCut x 0 nodes ≡ closedCut failed h nodes
-  unfolding closedCut expected pick
-  close-failed a d e = simp (← d, e, a)

@@ -1,20 +1,17 @@
--- Level and Close in the parts that the code hands over: numbers, settings, head and the area that changes. They follow the code's cut and
+-- Level in the parts that the code hands over, numbers, settings and the levels; the way back; the Moves once one has begun. They follow the code's cut and
 -- are tied to the definitions by lemmas. Relies on rules for the steps.
-use Prim.Native.Nat.{ℕ, _+_, _*_, _-_}
+use Prim.Native.Nat.{ℕ, _+_, _-_}
+use mathlib.Core.Bool.{true}
 use mathlib.Core.List.{List, _∷_}
 use lib.Dec.{eqb}
-use lib.ListN.{set}
 use Rattle.words.specs.Choice.{pick}
-use Rattle.settings.specs.Sizes.{nodeWords}
 use Rattle.settings.specs.declared.Settings.{Settings}
-use Rattle.areas.specs.Memory.{levelRef, nextAt, depthAt, fillLevel}
-use Rattle.record.specs.declared.Kind.{Kind}
-use Rattle.record.specs.declared.Kind.the-variants.{ChainHead}
-use Rattle.record.specs.declared.Head.{Head}
+use Rattle.words.specs.Digits.{depths}
+use Rattle.areas.specs.Memory.{isNode, named, depthAt, fillLevel}
 use Rattle.record.specs.declared.Move.{Move}
 use Rattle.record.specs.Layout.{newMove}
-use Rattle.rules.specs.Heads.{to, holdingLevel}
-use Rattle.rules.specs.Steps.{expected, tookLevel}
+use Rattle.rules.specs.Steps.{tookLevel, childOf, backMeets}
+use Rattle.steps.specs.declared.Way.{Way}
 
 -- Level, SetLevel: the number of the level that is taken, and the levels
 pub record LevelCut : Type 0 where
@@ -35,20 +32,14 @@ levelCounted s held = pick (eqb held 0) (tookLevel s) s
 unfoldable pub takeLevelCut : ℕ → ℕ → ℕ → ℕ → List ℕ → LevelCut
 takeLevelCut w taken held level l = levelCut (levelNo taken held) (fillLevel w l (levelNo taken held) level (depthAt w l level + 1))
 
--- Close, SetClose: head, the number + 1 of the level that a Move has begun to, or 0, and the nodes
-pub record CloseCut : Type 0 where
-  pub head : Head
-  pub child : ℕ
-  pub nodes : List ℕ
+-- Follow, SetFollow: whether going back from level t meets the worker's level, and the level to go on at
+unfoldable pub walkCut : ℕ → ℕ → ℕ → ℕ → List ℕ → Way
+walkCut w taken level t l =
+    record { meets = backMeets w taken l (depths w - 1) level t; child = childOf w l (depths w - 1) level t }
 
-abbrev pub closeCut : Head → ℕ → List ℕ → CloseCut
-closeCut h c n = record { head = h; child = c; nodes = n }
-
-unfoldable pub closedCut : Kind → Head → List ℕ → CloseCut
-closedCut failed h n =
-    pick (expected h (nextAt n (h .node)))
-    (closeCut (holdingLevel ChainHead 0 h) (h .«held_level») (set n (nodeWords * h .node + 1) (levelRef (h .«held_level» - 1))))
-    (closeCut (to failed h) 0 n)
+-- of the word met; of a node nothing is asked
+unfoldable pub backCut : ℕ → ℕ → ℕ → ℕ → List ℕ → Way
+backCut w taken level word l = pick (isNode word) (record { meets = true; child = 0 }) (walkCut w taken level (named word) l)
 
 -- the Moves once a Move from level g to level c - 1 has begun; c is 0 where none has
 unfoldable pub begun : ℕ → ℕ → List Move → List Move

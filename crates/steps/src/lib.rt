@@ -4,26 +4,23 @@ ghost use mathlib.Core.Path.{_≡_};
 ghost use Prim.Native.Nat.{_+_, _-_, _≤_};
 ghost use Rattle.words.specs.Digits.{depths};
 ghost use Rattle.settings.specs.Cut.{Sized};
-ghost use Rattle.areas.specs.Memory.{memory, depthAt};
+ghost use Rattle.areas.specs.Memory.{memory, levelRef, depthAt, exchanged, exchange};
 ghost use Rattle.rules.specs.Heads.{to, toLevel, toNode, holdingNode, holdingLevel, ended};
 ghost use Rattle.rules.specs.Steps.{peeked, byCount, more, tookNode, tookLevel, childOf, backMeets};
-ghost use Rattle.rules.specs.Asked.{inHand, picksIn, pixelFits, readsRef, comparesRef, goesBack, levelLeft, standsAt, tails, takesLevel, closes};
-ghost use Rattle.steps.specs.Cut.{levelCut, levelNo, levelCounted, takeLevelCut, closeCut, closedCut};
+ghost use Rattle.rules.specs.Asked.{inHand, picksIn, pixelFits, comparesRef, levelLeft, standsAt, standsWith, takesLevel};
+ghost use Rattle.steps.specs.Cut.{levelCut, levelNo, levelCounted, takeLevelCut, walkCut, backCut};
 use areas::Cell;
-use areas::cell_at;
 use areas::depth_at;
+use areas::exchange;
 use areas::fill_level;
 use areas::is_node;
 use areas::level_ref;
 use areas::level_taken;
 use areas::named;
-use areas::next_at;
 use areas::node_taken;
 use areas::pixel_at;
 use areas::previous_at;
-use areas::ref_taken;
 use areas::refers_to;
-use areas::set_next;
 use record::Head;
 use record::Kind;
 use settings::Settings;
@@ -31,9 +28,9 @@ use words::and;
 use words::le;
 use words::lt;
 
-// What Close and SetClose leave: the head, and the number + 1 of the level that a Move has begun to, or 0.
-pub struct Closed {
-    pub head: Head,
+// Going back from a level: whether the worker's level is met, and the level on the way whose previous it is.
+pub struct Way {
+    pub meets: bool,
     pub child: u32,
 }
 
@@ -132,12 +129,6 @@ pub fn compares_ref(s: Settings, word: u32, nodes: &[u32]) -> bool
     }
 }
 
-pub fn reads_ref(s: Settings, x: Cell, nodes: &[u32], levels: &[u32]) -> bool
-    ensures { λ r. ⌜ r ≡ readsRef 3 s x (memory (now (nodes .entry)) (now (levels .entry))) ⌝ }
-{
-    ref_taken(s, cell_at(x, nodes, levels))
-}
-
 // The next kind where the expected level stands in a cell, and the next kind otherwise.
 pub fn peeked(h: Head, word: u32, here: Kind, other: Kind) -> Head
     ensures { λ r. ⌜ r ≡ peeked h word here other ⌝ }
@@ -186,7 +177,7 @@ pub fn more(s: Settings, c: u32) -> u32
 }
 
 // Going back by previous words from level t to the one whose previous is g; at most 7 words are read.
-pub fn child_of(levels: &[u32], g: u32, t: u32) -> u32
+fn child_of(levels: &[u32], g: u32, t: u32) -> u32
     ensures { λ r. ⌜ r ≡ childOf 3 (now (levels .entry)) (depths 3 - 1) g t ⌝ }
 {
     let mut at = t;
@@ -223,13 +214,27 @@ fn back_meets(taken: u32, levels: &[u32], g: u32, t: u32) -> bool
     false
 }
 
-pub fn goes_back(taken: u32, level: u32, word: u32, levels: &[u32]) -> bool
-    ensures { λ r. ⌜ r ≡ goesBack 3 taken level word (now (levels .entry)) ⌝ }
+// Both, from level t.
+fn walk(taken: u32, level: u32, t: u32, levels: &[u32]) -> Way
+    ensures { λ r. ⌜ r ≡ walkCut 3 taken level t (now (levels .entry)) ⌝ }
+{
+    Way {
+        meets: back_meets(taken, levels, level, t),
+        child: child_of(levels, level, t),
+    }
+}
+
+// Both, from the word that Follow or SetFollow met. From a node there is no way back to ask.
+pub fn way_back(taken: u32, level: u32, word: u32, levels: &[u32]) -> Way
+    ensures { λ r. ⌜ r ≡ backCut 3 taken level word (now (levels .entry)) ⌝ }
 {
     if is_node(word) {
-        true
+        Way {
+            meets: true,
+            child: 0,
+        }
     } else {
-        back_meets(taken, levels, level, named(word))
+        walk(taken, level, named(word), levels)
     }
 }
 
@@ -237,12 +242,6 @@ pub fn stands_at(s: Settings, h: Head) -> bool
     ensures { λ r. ⌜ r ≡ standsAt s h ⌝ }
 {
     and(level_taken(s, h.level), node_taken(s, h.node))
-}
-
-pub fn tails(s: Settings, h: Head, nodes: &[u32]) -> bool
-    ensures { λ r. ⌜ r ≡ tails s h (now (nodes .entry)) ⌝ }
-{
-    and(stands_at(s, h), ref_taken(s, next_at(nodes, h.node)))
 }
 
 // A new level's depth is at most 7, and a level is held or left.
@@ -268,10 +267,19 @@ pub fn takes_level(s: Settings, h: Head, levels: &[u32]) -> bool
     )
 }
 
-pub fn closes(s: Settings, h: Head) -> bool
-    ensures { λ r. ⌜ r ≡ closes s h ⌝ }
+// Append, Close, SetClose: the level, R, and the node or level in hand.
+pub fn stands_with(s: Settings, h: Head, held: u32, taken: u32) -> bool
+    ensures { λ r. ⌜ r ≡ standsWith s h held taken ⌝ }
 {
-    and(stands_at(s, h), in_hand(h.held_level, s.levels_taken))
+    and(stands_at(s, h), in_hand(held, taken))
+}
+
+// Cell x is exchanged from level g to b. The word that it held.
+pub fn exchange_from(g: u32, x: Cell, b: u32, nodes: &mut [u32], levels: &mut [u32]) -> u32
+    requires { ⌜ g ≤ 28689 ⌝ }
+    ensures { λ r. ⌜ exchanged r (memory (now (nodes .exit)) (now (levels .exit))) ≡ exchange 3 (memory (now (nodes .entry)) (now (levels .entry))) x (levelRef g) b ⌝ }
+{
+    exchange(x, level_ref(g), b, nodes, levels)
 }
 
 // The level that Level and SetLevel take: the spare one, else the next number.
@@ -300,25 +308,4 @@ pub fn take_level(taken: u32, held: u32, level: u32, levels: &mut [u32]) -> u32
     let d = depth_at(levels, level) + 1;
     fill_level(levels, g, level, d);
     g
-}
-
-// R's next is exchanged from the worker's level to the level in hand.
-pub fn close_next(failed: Kind, h: Head, nodes: &mut [u32]) -> Closed
-    requires { ⌜ 1 ≤ h .«held_level» ⌝ }
-    requires { ⌜ h .«held_level» ≤ 28689 ⌝ }
-    ensures { λ r. ⌜ closeCut (r .head) (r .child) (now (nodes .exit)) ≡ closedCut failed h (now (nodes .entry)) ⌝ }
-{
-    if refers_to(next_at(nodes, h.node), h.level) {
-        let c = h.held_level;
-        set_next(nodes, h.node, level_ref(c - 1));
-        Closed {
-            head: holding_level(Kind::ChainHead, 0, h),
-            child: c,
-        }
-    } else {
-        Closed {
-            head: to(failed, h),
-            child: 0,
-        }
-    }
 }

@@ -2,7 +2,7 @@
 -- Relies on Digits, Update, Chain, Tree, World, Evolve, Stand, Search, Whole, Sum, Close, TakeNode, TakeLevel, Weights, Rank and Measure.
 use mathlib.Core.Path.{_≡_, refl, sym, ap, _∙_}
 use mathlib.Core.Logic.{_≢_}
-use Prim.Native.Nat.{ℕ, suc, _*_, _<_, min}
+use Prim.Native.Nat.{ℕ, suc, _*_, _≤_, _<_, min}
 use native.Mathlib.Nat.{mul-suc}
 use native.Mathlib.Decide.{ℕ-discrete}
 use native.Mathlib.Omega.{arith}
@@ -36,6 +36,19 @@ lower {δ} n w w′ a a′ e h = let k = ap (λ u. stretch δ * u) e in record {
 pub later : {δ : Dims} (w : World δ) (p q : Phase) → levelOf q ≡ levelOf p → posOf q ≡ posOf p → stage q < stage p → phase w q < phase w p
 unfolding phase
 later w p q e x h = rw (e, x) (omega arith)
+
+stage-pos : (p : Phase) → 1 ≤ stage p
+stage-pos (peek H x) = omega arith
+stage-pos (fetch H x) = omega arith
+stage-pos (put H x n) = omega arith
+stage-pos (again H x) = omega arith
+stage-pos (level H x) = omega arith
+stage-pos (shut H x G) = omega arith
+
+-- reading again is the last phase at a place
+pub again-last : {δ : Dims} (w : World δ) (p : Phase) → phase w (again (levelOf p) (posOf p)) ≤ phase w p
+unfolding phase
+again-last w p = let a = stage-pos p in omega arith
 
 -- levels that nobody has published: one owner for another
 owned-as : (n : ℕ) (f : ℕ → ℕ) (G v : ℕ) → f G ≢ 0 → v ≢ 0 → sum n (λ g. min 1 (upd f G v g)) ≡ sum n (λ g. min 1 (f g))
@@ -93,7 +106,7 @@ module _ {δ : Dims} {w : World δ} (S : Structure w) where
   unfolding amount
   level-falls n {T = T} {G = G} {x = x} held H d p v z o s = lower n w (takeLevel w G H d p v) (searching (level T x)) (searching (shut T x G)) (taken-same n held H d p v z) (taken-phase held H d p v z o s)
 
-  -- Read, Follow, SetRead and SetFollow meet a node: it comes after the place
+  -- Read, Follow, SetRead, SetFollow and failed exchanges meet a node: it comes after the place
   pub onward-less : (C : ℕ) {P : ℕ → Type 0} {H e R : ℕ} {x : Pos} → Stand w P H e x → w .cell (cellOf H e x) ≡ nodeRef R → Placed w R → phase w (peek H (at-node R C)) < phase w (again H x)
   unfolding phase place
   onward-less C {R = R} on-entry q p = let a = rank-lt S R p in omega arith

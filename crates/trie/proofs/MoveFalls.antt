@@ -65,9 +65,9 @@ module _ {δ : Dims} {w : World δ} (S : Structure w) (n : ℕ) {v K : ℕ} {f :
   set-falls h = inner-falls (f .nodes) (grows-refl w) refl (omega arith)
 
   -- a level is met: the node is set into a deeper one
-  pub set-down-falls : {N T t : ℕ} (x : Pos) → Published (w .tree) T → w .tree .depth T < w .tree .depth t → Falls n w w (moving f fs (set N (again T x))) (moving f fs (aim N t))
+  pub set-down-falls : {N T t : ℕ} {q : Phase} (x : Pos) → phase w (again T x) ≤ phase w q → Published (w .tree) T → w .tree .depth T < w .tree .depth t → Falls n w w (moving f fs (set N q)) (moving f fs (aim N t))
   unfolding inner phase
-  set-down-falls {N} {T} x p l =
+  set-down-falls {N} {T} x h p l =
       let a = under-less δ (visit δ) l (S .tree-ok .bounded T p) in
       inner-falls (f .nodes) (grows-refl w) refl (omega (arith, visit-is δ))
 

@@ -7,17 +7,19 @@ use native.Mathlib.Omega.{arith}
 use lib.Dec.{eqb}
 use Rattle.words.proofs.Choice.{pick-both}
 use Rattle.settings.specs.declared.Settings.{Settings}
-use Rattle.areas.specs.Memory.{Memory, isNode}
+use Rattle.areas.specs.Memory.{Memory, isNode, cellAt}
 use Rattle.areas.specs.declared.Cell.{Cell}
+use Rattle.areas.specs.declared.Cell.the-variants.{Next}
 use Rattle.record.specs.declared.Kind.{Kind}
 use Rattle.record.specs.declared.Kind.the-variants.{Idle, Look, Take, Put, Read, Tail, TakeTail, Append, Level, Close, Follow, ChainHead, ChainNext, SetNext, SetLook, SetPut, SetRead, SetTail, SetAppend, SetLevel, SetClose, SetFollow, MoveEnd, Unknown}
 use Rattle.record.specs.declared.Head.{Head}
 use Rattle.record.specs.declared.Move.{Move}
 use Rattle.record.specs.Kinds.{kindNo}
 use Rattle.rules.specs.Heads.{to, toLevel, toNode, holdingLevel}
-use Rattle.rules.specs.Steps.{Step, expected, peeked, withLevel, takeLevel, closed}
+use Rattle.rules.specs.Steps.{Step, peeked, withLevel, takeLevel, closed}
 use Rattle.rules.specs.Moving as moving
 use Rattle.rules.specs.Acts.{actBy}
+use Rattle.rules.proofs.Exchanging.{exchange-both}
 use Rattle.mover.specs.Words.{Keeps}
 
 module _ (h : Head) where
@@ -53,9 +55,9 @@ module _ (h : Head) where
     unfolding moving.setMet
     met-keeps v os c g word = pick-both (λ (x : Head). Keeps x h) (isNode word) (λ e. node-keeps SetTail _ c) (λ e. level-keeps SetNext g)
 
-    set-keeps : (k : Kind) (v : Move) (os : List Move) (x : Cell) → Kept (moving.setNode w k s h v os x m)
+    set-keeps : (failed : ℕ → Memory → Step) (v : Move) (os : List Move) (x : Cell) → Kept (failed (cellAt w m x) m) → Kept (moving.setNode w failed s h v os x m)
     unfolding moving.setNode
-    set-keeps k v os x = pick-both Kept (expected h _) (λ e. last-keeps _ os _) (λ e. to-keeps k)
+    set-keeps failed v os x f = exchange-both Kept w h x _ _ failed m (λ e. last-keeps _ os _) (λ e. f)
 
     peek-keeps : (word : ℕ) (here other : Kind) → Keeps (peeked h word here other) h
     unfolding peeked
@@ -65,9 +67,9 @@ module _ (h : Head) where
     unfolding takeLevel withLevel
     take-keeps k ms = pick-both Kept (eqb (h .«held_level») 0) (λ e. holding-keeps k _) (λ e. holding-keeps k _)
 
-    close-keeps : (k : Kind) (ms : List Move) → Kept (closed w k s h ms m)
+    close-keeps : (failed : ℕ → Memory → Step) (ms : List Move) → Kept (failed (cellAt w m (Next (h .node))) m) → Kept (closed w failed s h ms m)
     unfolding closed
-    close-keeps k ms = pick-both Kept (expected h _) (λ e. holding-keeps ChainHead 0) (λ e. to-keeps k)
+    close-keeps failed ms f = exchange-both Kept w h (Next (h .node)) _ _ failed m (λ e. holding-keeps ChainHead 0) (λ e. f)
 
     after-keeps : (g : ℕ) (os : List Move) → Keeps (moving.afterMove h g os) h
     unfolding moving.afterMove
@@ -92,12 +94,12 @@ module _ (h : Head) where
     kind-keeps ChainNext ms low high = chain-keeps _ _ _
     kind-keeps SetNext ms low high = to-keeps SetLook
     kind-keeps SetLook ms low high = peek-keeps _ SetPut SetRead
-    kind-keeps SetPut ms low high = set-keeps SetRead _ _ _
+    kind-keeps SetPut ms low high = set-keeps _ _ _ _ (met-keeps _ _ 1 _ _)
     kind-keeps SetRead ms low high = met-keeps _ _ 1 _ _
     kind-keeps SetTail ms low high = peek-keeps _ _ SetFollow
-    kind-keeps SetAppend ms low high = set-keeps SetFollow _ _ _
+    kind-keeps SetAppend ms low high = set-keeps _ _ _ _ (met-keeps _ _ _ _ _)
     kind-keeps SetLevel ms low high = take-keeps SetClose _
-    kind-keeps SetClose ms low high = close-keeps SetFollow _
+    kind-keeps SetClose ms low high = close-keeps _ _ (met-keeps _ _ _ _ _)
     kind-keeps SetFollow ms low high = met-keeps _ _ _ _ _
     kind-keeps MoveEnd ms low high = after-keeps _ _
     kind-keeps Unknown ms low high = absurd (omega arith)

@@ -9,7 +9,6 @@ use lib.Dec.{leb}
 use lib.ListN.{length}
 use borrow.Author.Tests.{ne-eqb, eqb-true, le-leb, lt-leb, leb-true}
 use Rattle.words.specs.Choice.{pick, both, every}
-use Rattle.words.specs.Digits.{depths}
 use Rattle.words.proofs.Choice.{pick-both, pick-true, pick-false, both-left, both-right, both-true, true-false}
 use Rattle.settings.specs.Sizes.{maxMoves, within}
 use Rattle.settings.specs.Cut.{Sized}
@@ -24,7 +23,6 @@ use Rattle.record.specs.declared.Move.{Move}
 use Rattle.record.specs.Kinds.{kindNo}
 use Rattle.record.specs.Layout.{record′, load, headAt, movesAt, moveFrom, moveAt, firstMoves, store}
 use Rattle.record.specs.Fits.{fits, fitsBy, callFits, movingFits, movesFit, innerFits, outerFits}
-use Rattle.record.proofs.Pieces.{length-first}
 use Rattle.rules.specs.Acts.{actBy}
 use Rattle.rules.specs.Asked.{readsBy, takesNode, question9}
 use Rattle.rules.specs.Steps.{Step}
@@ -63,11 +61,6 @@ module _ (w : ℕ) (s : Settings) (l : List ℕ) (i : ℕ) (f : fits w s (load w
   fits-list : (leb (length (firstMoves w l i (movesAt w l i))) (maxMoves w) ≡ true) × (movesFit s (kindNo (headAt w l i .kind)) (firstMoves w l i (movesAt w l i)) ≡ true)
   unfolding movingFits
   fits-list = pick-yes _ _ (fits-moving .1)
-
-  moves-most : movesAt w l i ≤ maxMoves w
-  moves-most =
-      let a : length (firstMoves w l i (movesAt w l i)) ≤ maxMoves w = leb-true _ _ (fits-list .0) in
-      rw (length-first w l i (movesAt w l i)) at a
 
   first-fits : (n : ℕ) → movesFit s (kindNo (headAt w l i .kind)) (firstMoves w l i n) ≡ true → (1 ≤ n) × (innerFits s (kindNo (headAt w l i .kind)) (moveAt w l i (n - 1) .count) ≡ true)
   unfolding firstMoves movesFit
@@ -110,10 +103,6 @@ module _ (s : Settings) (l : List ℕ) (i : ℕ) (h : Head) (v : Mover) where
   pub loaded-least : v ≡ moverAt 3 l i h → h ≡ headAt 3 l i → fits 3 s (load 3 l i) ≡ true → 11 ≤ kindNo (h .kind) → 1 ≤ v .moves
   unfolding moverAt
   loaded-least a e f k = rw a (moves-least 3 s l i f (rw e at k))
-
-  pub loaded-most : v ≡ moverAt 3 l i h → h ≡ headAt 3 l i → fits 3 s (load 3 l i) ≡ true → 11 ≤ kindNo (h .kind) → v .moves ≤ 7
-  unfolding moverAt maxMoves depths
-  loaded-most a e f k = rw a (moves-most 3 s l i f (rw e at k))
 
 -- the questions that a moving kind is asked
 nine-moving : (w : ℕ) (s : Settings) (k : Kind) (h : Head) (ms : List Move) (m : Memory) (t : Step) → h .kind ≡ k → 11 ≤ kindNo k → unlessNine (question9 s (record′ h ms)) s h m t ≡ tried 0 t
@@ -168,6 +157,13 @@ module _ (w : ℕ) (s : Settings) (i : ℕ) (l : List ℕ) (m m′ : Memory) (r 
       (λ e. kind-keeps (headAt w l i) w s m (headAt w l i .kind) all low (kind-most w s l i f low))
       (λ e. record { pixel-is = refl; held-is = refl; answer-is = refl; answer-node-is = refl }))
 
+  -- a moving turn has no number but 6 and 0
+  tried-zero : fits w s (load w l i) ≡ true → 11 ≤ kindNo (headAt w l i .kind) → (triedOf w s (load w l i) m .number ≡ 6 → ⊥) → triedOf w s (load w l i) m .number ≡ 0
+  unfolding unlessSix
+  tried-zero f low =
+      let Zero : Tried → Type 0 = λ t. (t .number ≡ 6 → ⊥) → t .number ≡ 0 in
+      subst Zero (asked-is f low) (pick-both Zero (both (isMoving (headAt w l i .kind)) (readsBy (headAt w l i .kind) w s (headAt w l i) all m)) (λ e n. refl) (λ e n. absurd (n refl)))
+
 module _ (w : ℕ) (s : Settings) (i : ℕ) (h : Head) (nodes levels l : List ℕ) where
   abbrev pub Given : Mover → Moved → Memory → Type 0
   Given v r m′ =
@@ -198,10 +194,12 @@ module _ (w : ℕ) (s : Settings) (i : ℕ) (h : Head) (nodes levels l : List �
       store-is w l i (r .mover) k (given .most (most-of f p y)) (moves-least w s l i f p) (given .counts)
 
   pub move-done :
-      (v : Mover) (r : Moved) {x : Reply} {n g l′ : List ℕ} → x ≡ reply (r .number) (r .answer) 0 (r .settings) → l′ ≡ moverTo w (r .mover) i l → Given v r (memory n g) → v ≡ moverAt w l i h → (r .number ≡ 6 → ⊥) → h ≡ headAt w l i → Sized s → fits w s (load w l i) ≡ true → 11 ≤ kindNo (h .kind)
+      (v : Mover) (r : Moved) {x : Reply} {n g l′ : List ℕ} → x ≡ reply 0 (r .answer) 0 (r .settings) → l′ ≡ moverTo w (r .mover) i l → Given v r (memory n g) → v ≡ moverAt w l i h → (r .number ≡ 6 → ⊥) → h ≡ headAt w l i → Sized s → fits w s (load w l i) ≡ true → 11 ≤ kindNo (h .kind)
       → result x (areas n g l′) ≡ finished w (triedOf w s (load w l i) (memory nodes levels)) i s (areas nodes levels l)
   move-done v r {x} {n} {g} {l′} a c gives b z e y f k =
       let p : 11 ≤ kindNo (headAt w l i .kind) = rw e at k in
       let given : Given (moverAt w l i (headAt w l i)) r (memory n g) = given-is r (memory n g) v gives b e in
       let q = loaded-is w s i l (memory nodes levels) (memory n g) r y f p given in
-      finish-done w i s nodes levels l (triedOf w s (load w l i) (memory nodes levels)) (moved (moverAt w l i (headAt w l i)) r (innermost w l i) (around w l i) (memory n g) .step′) a (c ∙ kept-is r given q y f p) q z
+      let number-is : r .number ≡ triedOf w s (load w l i) (memory nodes levels) .number = ap (λ (t : Tried). t .number) q in
+      let zero : r .number ≡ 0 = number-is ∙ tried-zero w s i l (memory nodes levels) (memory n g) r f p (λ u. z (number-is ∙ u)) in
+      finish-done w i s nodes levels l (triedOf w s (load w l i) (memory nodes levels)) (moved (moverAt w l i (headAt w l i)) r (innermost w l i) (around w l i) (memory n g) .step′) (a ∙ ap (λ k. reply k (r .answer) 0 (r .settings)) (sym zero)) (c ∙ kept-is r given q y f p) q z

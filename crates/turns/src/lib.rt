@@ -94,7 +94,7 @@ fn move_turn(
         let s2 = t.settings;
         let m = t.mover;
         m.store(workers, i);
-        replied(n, a, s2)
+        replied(0, a, s2)
     }
 }
 

@@ -2,16 +2,15 @@
 -- Relies on words for tests with parts, on steps for bounds.
 use mathlib.Core.Path.{_≡_}
 use mathlib.Core.Bool.{Bool, true, false}
-use mathlib.Core.List.{List}
-use Prim.Native.Nat.{ℕ, _≤_}
+use Prim.Native.Nat.{_≤_}
 use lib.Dec.{ltb, eqb}
-use Rattle.words.specs.Choice.{pick, both}
+use Rattle.words.specs.Choice.{pick}
 use Rattle.words.proofs.Choice.{via, both-left, both-right}
 use Rattle.settings.specs.declared.Settings.{Settings}
 use Rattle.settings.specs.Cut.{Sized}
 use Rattle.areas.specs.Memory.{levelTaken}
 use Rattle.record.specs.declared.Head.{Head}
-use Rattle.rules.specs.Asked.{spare, comparesRef, goesBack, nodeLeft, takes}
+use Rattle.rules.specs.Asked.{spare, nodeLeft, takes}
 use Rattle.steps.proofs.Asked.{level-most, node-most}
 
 module _ (s : Settings) (h : Head) where
@@ -23,13 +22,6 @@ module _ (s : Settings) (h : Head) where
   pub left-spare : eqb (h .«held_node») 0 ≡ false → true ≡ nodeLeft s h
   unfolding nodeLeft pick
   left-spare e = simp e
-
--- a test, and a word that is compared and followed
-pub ask-followed :
-    (w taken level : ℕ) (s : Settings) (nodes levels : List ℕ) {r a b c d e : Bool} {v u : ℕ}
-    → r ≡ both a b → b ≡ both c d → d ≡ goesBack w taken level v levels → c ≡ comparesRef s v nodes → a ≡ e → v ≡ u
-    → r ≡ both e (both (comparesRef s u nodes) (goesBack w taken level u levels))
-ask-followed w taken level s nodes levels p q d c a v = simp (p, q, d, c, a, v)
 
 -- what a yes says of numbers: Take, TakeTail
 module _ (s : Settings) (h : Head) {r : Bool} where

@@ -1,27 +1,30 @@
 -- The steps that kinds of a search share, in the code: one law for each way, over any width, cell, next kind and count.
 -- Relies on rules for what a step does, on steps for the code's cut of Level and Close.
-use mathlib.Core.Path.{_≡_, ap, _∙_}
-use mathlib.Core.Bool.{true, false}
+use mathlib.Core.Path.{_≡_, refl, ap, _∙_}
+use mathlib.Core.Bool.{Bool, true, false}
 use mathlib.Core.List.{List, []}
-use Prim.Native.Nat.{ℕ, _+_, _-_, _≤_}
+use Prim.Native.Nat.{ℕ, _+_, _-_}
 use lib.Dec.{eqb}
-use Rattle.words.specs.Choice.{pick}
-use Rattle.words.specs.Digits.{depths}
+use Rattle.words.specs.Choice.{pick, both}
+use Rattle.words.proofs.Choice.{via}
 use Rattle.settings.specs.declared.Settings.{Settings}
-use Rattle.areas.specs.declared.Cell.{Cell}
-use Rattle.areas.specs.Memory.{Memory, memory, levelRef, nodeRef, isNode, named, pixelAt, cellAt, setCell, fillNode}
+use Rattle.areas.specs.Memory.{Memory, memory, levelRef, isNode, named, pixelAt, fillNode}
 use Rattle.record.specs.declared.Kind.{Kind}
 use Rattle.record.specs.declared.Kind.the-variants.{Look, Tail}
-use Rattle.record.specs.declared.Answer.the-variants.{New, Found, Open}
+use Rattle.record.specs.declared.Answer.the-variants.{Nothing, Found, Open}
 use Rattle.record.specs.declared.Head.{Head}
-use Rattle.rules.specs.Heads.{to, toLevel, toNode, holdingNode, holdingLevel, ended}
-use Rattle.rules.specs.Steps.{expected, more, tookNode, withNode, takeNode, takeLevel, closed, childOf}
-use Rattle.rules.specs.Searching.{placed, metNode, met, readWord, followWord}
+use Rattle.rules.specs.Heads.{toLevel, toNode, holdingNode, holdingLevel, ended}
+use Rattle.rules.specs.Steps.{Step, more, tookNode, withNode, takeNode, takeLevel}
+use Rattle.rules.specs.Searching.{metNode, met, readWord, followWord}
 use Rattle.worker.specs.declared.Turned.{Turned}
-use Rattle.steps.specs.Cut.{levelCut, levelCounted, takeLevelCut, CloseCut, closeCut, closedCut, begun}
-use Rattle.steps.specs.Tried.{Tried, tried}
-use Rattle.steps.proofs.Ties.{take-level-cut, closed-cut, closed-level}
+use Rattle.rules.specs.Asked.{comparesRef, followsRef}
+use Rattle.steps.specs.declared.Way.{Way}
+use Rattle.steps.specs.Cut.{levelCut, levelCounted, takeLevelCut, backCut, begun}
+use Rattle.steps.specs.Tried.{Tried, tried, unlessSix}
+use Rattle.steps.proofs.Back.{meets-is, child-is}
+use Rattle.steps.proofs.Ties.{take-level-cut}
 use Rattle.worker.specs.Tried.{turned, turnedOf}
+use Rattle.worker.proofs.Turns.{six-no, six-yes}
 
 -- a node is taken
 module _ (k : Kind) (s : Settings) (h : Head) where
@@ -42,23 +45,6 @@ module _ (k : Kind) (s : Settings) (h : Head) where
       (m : Memory) {t : Tried} → t ≡ tried 0 (withNode k s h (h .«held_node» - 1) m) → eqb (h .«held_node») 0 ≡ false → t ≡ tried 0 (takeNode k s h m)
   unfolding takeNode pick
   take-spare m a e = simp (e, a)
-
--- a cell is exchanged
-module _ (w : ℕ) (failed : Kind) (s : Settings) (h : Head) (x : Cell) (m : Memory) where
-  pub place-done :
-      {t : Turned} {y : Head} {m′ : Memory} {r v : ℕ}
-      → t ≡ turnedOf 0 (New (h .«held_node» - 1)) s y 0 → y ≡ ended 1 (h .«held_node» - 1) 0 h
-      → m′ ≡ setCell w m x r → r ≡ nodeRef (h .«held_node» - 1)
-      → v ≡ cellAt w m x → eqb v (levelRef (h .level)) ≡ true → turned t m′ ≡ tried 0 (placed w failed s h x m)
-  unfolding placed expected begun pick
-  place-done a b c d e f = simp (← e, f, a, b, c, d)
-
-  pub place-failed :
-      {t : Turned} {y : Head} {v : ℕ}
-      → t ≡ turnedOf 0 Open s y 0 → y ≡ to failed h → v ≡ cellAt w m x → eqb v (levelRef (h .level)) ≡ false
-      → turned t m ≡ tried 0 (placed w failed s h x m)
-  unfolding placed expected begun pick
-  place-failed a b e f = simp (← e, f, a, b)
 
 -- a word is read again
 module _ (s : Settings) (h : Head) (c : ℕ) where
@@ -94,12 +80,32 @@ pub read-there :
 unfolding readWord
 read-there s h word m a b = simp (a, b)
 
-pub follow-there :
-    (w : ℕ) (s : Settings) (h : Head) (word : ℕ) (nodes levels : List ℕ) {t : Tried} {c g n : ℕ}
-    → t ≡ tried 0 (met s h c g word (memory nodes levels)) → c ≡ more s (h .count)
-    → g ≡ childOf w levels (depths w - 1) (h .level) n → n ≡ named word → t ≡ tried 0 (followWord w s h word (memory nodes levels))
-unfolding followWord
-follow-there w s h word nodes levels a b d e = simp (a, b, d, e)
+-- Follow's word: the count, and at a level the way back
+module _ (w : ℕ) (s : Settings) (h : Head) (word : ℕ) (nodes levels : List ℕ) {b : Way} where
+  follow-asks : {q a : Bool} → q ≡ both a (b .meets) → a ≡ comparesRef s word nodes → b ≡ backCut w (s .«levels_taken») (h .level) word levels → q ≡ followsRef w s h word (memory nodes levels)
+  unfolding followsRef
+  follow-asks p a e = simp (p, a, meets-is w (s .«levels_taken») (h .level) word levels e)
+
+  follow-met : (q : Bool) (m : Memory) → isNode word ≡ q → b ≡ backCut w (s .«levels_taken») (h .level) word (m .levels) → met s h (more s (h .count)) (b .child) word m ≡ followWord w s h word m
+  unfolding met followWord pick
+  follow-met true m e p = simp e
+  follow-met false m e p = simp (e, child-is w (s .«levels_taken») (h .level) word (m .levels) p e)
+
+  pub follow-yes :
+      (before : Bool) {u : Tried} {c : ℕ} {r q a : Bool}
+      → u ≡ tried 0 (met s h c (b .child) word (memory nodes levels)) → c ≡ more s (h .count) → b ≡ backCut w (s .«levels_taken») (h .level) word levels
+      → r ≡ both before q → q ≡ both a (b .meets) → a ≡ comparesRef s word nodes → r ≡ true
+      → u ≡ unlessSix (both before (followsRef w s h word (memory nodes levels))) s h [] (memory nodes levels) (tried 0 (followWord w s h word (memory nodes levels)))
+  follow-yes before p c e r q a f =
+      let m = memory nodes levels in
+      six-yes (both before (followsRef w s h word m)) s h m (p ∙ ap (λ n. tried 0 (met s h n (b .child) word m)) c ∙ ap (λ (t : Step). tried 0 t) (follow-met (isNode word) m refl e)) (via (r ∙ ap (both before) (follow-asks q a e)) f)
+
+  pub follow-no :
+      (before : Bool) {t : Turned} {r q a : Bool}
+      → t ≡ turnedOf 6 Nothing s h 0 → b ≡ backCut w (s .«levels_taken») (h .level) word levels
+      → r ≡ both before q → q ≡ both a (b .meets) → a ≡ comparesRef s word nodes → r ≡ false
+      → turned t (memory nodes levels) ≡ unlessSix (both before (followsRef w s h word (memory nodes levels))) s h [] (memory nodes levels) (tried 0 (followWord w s h word (memory nodes levels)))
+  follow-no before p e r q a f = six-no (both before (followsRef w s h word (memory nodes levels))) s h (memory nodes levels) _ p (via (r ∙ ap (both before) (follow-asks q a e)) f)
 
 -- a level is taken
 module _ (w : ℕ) (s : Settings) (h : Head) (nodes levels : List ℕ) where
@@ -110,12 +116,3 @@ module _ (w : ℕ) (s : Settings) (h : Head) (nodes levels : List ℕ) where
       → turned t (memory nodes l) ≡ tried 0 (takeLevel w k s h [] (memory nodes levels))
   unfolding begun pick
   level-there k a b c e = simp (a, b, c, take-level-cut w s h [] (memory nodes levels) k, ← e)
-
-  -- R's next is exchanged
-  pub close-there :
-      (failed : Kind) {t : Turned} {y : Head} {c : ℕ} {n : List ℕ}
-      → t ≡ turnedOf 0 Open s y c → closeCut y c n ≡ closedCut failed h nodes → 1 ≤ h .«held_level»
-      → turned t (memory n levels) ≡ tried 0 (closed w failed s h [] (memory nodes levels))
-  close-there failed {t} {y} {c} {n} a e one =
-      let g : y .level ≡ h .level = ap (λ (x : CloseCut). x .head .level) e ∙ closed-level failed h nodes in
-      simp (a, closed-cut w s h [] (memory nodes levels) failed one, ← e, g)

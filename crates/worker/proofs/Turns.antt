@@ -1,6 +1,6 @@
--- What every kind of turn has alike, in the code: question 6, question 9, and the cell that the turn is at, over any width, cell and kinds.
+-- What every kind of turn has alike, in the code: question 6, question 9, and the turn by its kind, over any width and kinds.
 -- Relies on rules for what a step does.
-use mathlib.Core.Path.{_≡_, refl}
+use mathlib.Core.Path.{_≡_}
 use mathlib.Core.Bool.{Bool, true, false, not}
 use mathlib.Core.List.{[]}
 use Prim.Native.Nat.{ℕ, _≤_}
@@ -8,18 +8,16 @@ use lib.Dec.{leb}
 use borrow.Author.Tests.{le-leb, not-true}
 use Rattle.words.specs.Choice.{pick, both}
 use Rattle.settings.specs.declared.Settings.{Settings}
-use Rattle.areas.specs.declared.Cell.{Cell}
-use Rattle.areas.specs.Memory.{Memory, cellAt}
+use Rattle.areas.specs.Memory.{Memory}
 use Rattle.record.specs.declared.Kind.{Kind}
 use Rattle.record.specs.Kinds.{kindNo}
-use Rattle.record.specs.declared.Answer.the-variants.{Nothing, Full, Open}
+use Rattle.record.specs.declared.Answer.the-variants.{Nothing, Full}
 use Rattle.record.specs.declared.Head.{Head}
 use Rattle.record.specs.Layout.{record′}
 use Rattle.rules.specs.Acts.{actBy}
 use Rattle.rules.specs.Asked.{readsBy, question9}
 use Rattle.rules.specs.Heads.{ended}
-use Rattle.rules.specs.Steps.{Step, step, going, peeked}
-use Rattle.rules.specs.Searching.{placed, readWord, followWord}
+use Rattle.rules.specs.Steps.{Step, step}
 use Rattle.worker.specs.declared.Turned.{Turned}
 use Rattle.steps.specs.Cut.{begun}
 use Rattle.steps.specs.Tried.{Tried, tried, unlessSix, unlessNine}
@@ -46,29 +44,6 @@ module _ (q : Bool) (s : Settings) (h : Head) (m : Memory) (u : Step) where
   pub nine-yes : {t : Tried} → t ≡ tried 0 u → q ≡ true → t ≡ unlessNine q s h m u
   unfolding unlessNine pick
   nine-yes a e = simp (e, a)
-
--- a cell is looked at
-pub looked-at :
-    (s : Settings) (h : Head) (m : Memory) (word : ℕ) (here other : Kind) {t : Turned} {z : Head} {v : ℕ} {k : Kind}
-    → t ≡ turnedOf 0 Open s z 0 → z ≡ peeked h v k other → v ≡ word → k ≡ here
-    → turned t m ≡ tried 0 (going s (peeked h word here other) [] m)
-unfolding begun pick
-looked-at s h m word here other a b c d = simp (a, b, c, d)
-
--- a turn at a cell: its word, the exchange of it, and its word read again
-module _ (w : ℕ) (s : Settings) (h : Head) (m : Memory) (y : Cell) where
-  pub cell-word : {x : Cell} {v : ℕ} → v ≡ cellAt w m x → x ≡ y → v ≡ cellAt w m y
-  cell-word a b = simp (a, b)
-
-  pub placed-at : (failed : Kind) {t : Tried} {x : Cell} → t ≡ tried 0 (placed w failed s h x m) → x ≡ y → t ≡ tried 0 (placed w failed s h y m)
-  placed-at failed a b = simp (a, b)
-
-module _ (w : ℕ) (s : Settings) (h : Head) (m : Memory) (word : ℕ) {t : Tried} {v : ℕ} where
-  pub read-at : t ≡ tried 0 (readWord s h v m) → v ≡ word → t ≡ tried 0 (readWord s h word m)
-  read-at a b = simp (a, b)
-
-  pub followed-at : t ≡ tried 0 (followWord w s h v m) → v ≡ word → t ≡ tried 0 (followWord w s h word m)
-  followed-at a b = simp (a, b)
 
 -- a kind that is none of a search is refused
 not-searching : (k : Kind) → not (both (leb 1 (kindNo k)) (leb (kindNo k) 10)) ≡ true → isSearching k ≡ false

@@ -2,13 +2,15 @@
 // Relies on steps for what searching and moving do alike, on areas for cells, on record for the head, on rules for the definitions.
 ghost use mathlib.Core.Path.{_≡_};
 ghost use mathlib.Core.List.{[]};
-ghost use Prim.Native.Nat.{_≤_};
+ghost use Prim.Native.Nat.{_≤_, _-_};
+ghost use Rattle.rules.specs.Heads.{holdingLevel, ended};
+ghost use Rattle.words.specs.Choice.{pick, both};
 ghost use Rattle.settings.specs.Cut.{Sized};
-ghost use Rattle.areas.specs.Memory.{memory, depthAt, cellAt};
-ghost use Rattle.rules.specs.Steps.{withNode, takeNode, takeLevel, closed};
-ghost use Rattle.rules.specs.Searching.{entryOf, placed, metNode, met, readWord, followWord, look, take, put, read, tail, takeTail, append, level, close, follow};
-ghost use Rattle.rules.specs.Asked.{nodeLeft, takes, tails, takesLevel, closes, looks, puts, reads, appends, follows};
-ghost use Rattle.steps.specs.Tried.{tried, unlessSix, unlessNine};
+ghost use Rattle.areas.specs.Memory.{memory, depthAt, refTaken};
+ghost use Rattle.rules.specs.Steps.{peeked, withNode, takeNode, takeLevel, beginsMove};
+ghost use Rattle.rules.specs.Searching.{entryOf, endsNew, metNode, met, readWord, followWord, look, take, put, read, tail, takeTail, append, level, close, follow};
+ghost use Rattle.rules.specs.Asked.{comparesRef, followsRef, nodeLeft, takes, tails, takesLevel, looks, picksWith, puts, reads, appends, closes, follows};
+ghost use Rattle.steps.specs.Tried.{tried, unlessSix, unlessNine, exchangeTried};
 ghost use Rattle.worker.specs.Tried.{turned, turnedOf};
 ghost use Rattle.worker.specs.Searching.{searchTried};
 use areas::Cell;
@@ -22,35 +24,31 @@ use areas::named;
 use areas::next_at;
 use areas::node_ref;
 use areas::pixel_at;
+use areas::ref_taken;
 use areas::refers_to;
-use areas::set_cell;
 use record::Answer;
 use record::Head;
 use record::Kind;
 use settings::Settings;
 use steps::by_count;
-use steps::child_of;
-use steps::close_next;
-use steps::closes;
 use steps::compares_ref;
 use steps::counted;
 use steps::ended;
-use steps::goes_back;
+use steps::exchange_from;
 use steps::holding_level;
 use steps::holding_node;
 use steps::in_hand;
 use steps::more;
 use steps::peeked;
 use steps::picks_in;
-use steps::reads_ref;
 use steps::stands_at;
-use steps::tails;
+use steps::stands_with;
 use steps::take_level;
 use steps::takes_level;
-use steps::to;
 use steps::to_level;
 use steps::to_node;
 use steps::took_node;
+use steps::way_back;
 use words::and;
 use words::eq;
 use words::le;
@@ -136,26 +134,21 @@ fn take_node(k: Kind, s: Settings, h: Head, nodes: &mut [u32], levels: &[u32]) -
     }
 }
 
-// A cell is exchanged from the worker's level to the node in hand.
-fn place_node(
-    failed: Kind,
-    s: Settings,
-    h: Head,
-    x: Cell,
-    nodes: &mut [u32],
-    levels: &mut [u32],
-) -> Turned
+// The node in hand is placed: the call ends "new".
+fn ends_new(s: Settings, h: Head) -> Turned
     requires { ⌜ 1 ≤ h .«held_node» ⌝ }
-    requires { ⌜ h .«held_node» ≤ 4096 ⌝ }
-    ensures { λ r. ⌜ turned r (memory (now (nodes .exit)) (now (levels .exit))) ≡ tried 0 (placed 3 failed s h x (memory (now (nodes .entry)) (now (levels .entry)))) ⌝ }
+    ensures { λ r. ⌜ r ≡ turnedOf 0 (Answer.New (h .«held_node» - 1)) s (ended 1 (h .«held_node» - 1) 0 h) 0 ⌝ }
 {
     let n = h.held_node - 1;
-    if refers_to(cell_at(x, nodes, levels), h.level) {
-        set_cell(x, node_ref(n), nodes, levels);
-        answered(0, Answer::New(n), s, ended(1, n, 0, h), 0)
-    } else {
-        going(s, to(failed, h))
-    }
+    answered(0, Answer::New(n), s, ended(1, n, 0, h), 0)
+}
+
+// The level in hand closes the chain: a Move of it begins.
+fn begins_move(s: Settings, h: Head) -> Turned
+    ensures { λ r. ⌜ r ≡ turnedOf 0 Answer.Open s (holdingLevel Kind.ChainHead 0 h) (h .«held_level») ⌝ }
+{
+    let n = holding_level(Kind::ChainHead, 0, h);
+    answered(0, Answer::Open, s, n, h.held_level)
 }
 
 // A node was met: it has the call's pixel, or the walk goes on from it.
@@ -187,13 +180,85 @@ fn read_word(s: Settings, h: Head, word: u32, nodes: &[u32], levels: &[u32]) -> 
     met(s, h, 1, named(word), word, nodes, levels)
 }
 
-// Follow's word: at a level, Look at the one on the way to it whose previous is H.
-fn follow_word(s: Settings, h: Head, word: u32, nodes: &[u32], levels: &[u32]) -> Turned
-    requires { ⌜ s .limit ≤ 8 ⌝ }
-    ensures { λ r. ⌜ turned r (memory (now (nodes .entry)) (now (levels .entry))) ≡ tried 0 (followWord 3 s h word (memory (now (nodes .entry)) (now (levels .entry)))) ⌝ }
+// The word that Look or Tail read: question 6, `before` being what it asks besides the word, then the next kind.
+fn peek_met(before: bool, s: Settings, h: Head, word: u32, here: Kind, other: Kind) -> Turned
+    ensures { λ r. ⌜ r ≡ pick (both before (refTaken s word)) (turnedOf 0 Answer.Open s (peeked h word here other) 0) (turnedOf 6 Answer.Nothing s h 0) ⌝ }
 {
-    let g = child_of(levels, h.level, named(word));
-    met(s, h, more(s, h.count), g, word, nodes, levels)
+    if and(before, ref_taken(s, word)) {
+        going(s, peeked(h, word, here, other))
+    } else {
+        refused_six(s, h)
+    }
+}
+
+// The word that Read or a failed Put met: question 6, then what Read does with it.
+fn read_met(before: bool, s: Settings, h: Head, word: u32, nodes: &[u32], levels: &[u32]) -> Turned
+    ensures { λ r. ⌜ turned r (memory (now (nodes .entry)) (now (levels .entry))) ≡ unlessSix (both before (comparesRef s word (now (nodes .entry)))) s h [] (memory (now (nodes .entry)) (now (levels .entry))) (tried 0 (readWord s h word (memory (now (nodes .entry)) (now (levels .entry))))) ⌝ }
+{
+    if and(before, compares_ref(s, word, nodes)) {
+        read_word(s, h, word, nodes, levels)
+    } else {
+        refused_six(s, h)
+    }
+}
+
+// The word that Follow, or a failed Append or Close met: question 6, then what Follow does with it. At a level, Look at the one on the way to it whose
+// previous is H.
+fn follow_met(
+    before: bool,
+    s: Settings,
+    h: Head,
+    word: u32,
+    nodes: &[u32],
+    levels: &[u32],
+) -> Turned
+    requires { ⌜ s .limit ≤ 8 ⌝ }
+    ensures { λ r. ⌜ turned r (memory (now (nodes .entry)) (now (levels .entry))) ≡ unlessSix (both before (followsRef 3 s h word (memory (now (nodes .entry)) (now (levels .entry))))) s h [] (memory (now (nodes .entry)) (now (levels .entry))) (tried 0 (followWord 3 s h word (memory (now (nodes .entry)) (now (levels .entry))))) ⌝ }
+{
+    let w = way_back(s.levels_taken, h.level, word, levels);
+    if and(before, and(compares_ref(s, word, nodes), w.meets)) {
+        met(s, h, more(s, h.count), w.child, word, nodes, levels)
+    } else {
+        refused_six(s, h)
+    }
+}
+
+// The word that Put's exchange met. H: the node is placed. Another: as a failed Put.
+fn put_met(s: Settings, h: Head, word: u32, nodes: &[u32], levels: &[u32]) -> Turned
+    requires { ⌜ 1 ≤ h .«held_node» ⌝ }
+    ensures { λ r. ⌜ turned r (memory (now (nodes .entry)) (now (levels .entry))) ≡ exchangeTried s h [] word (memory (now (nodes .entry)) (now (levels .entry))) (endsNew s h (memory (now (nodes .entry)) (now (levels .entry)))) (comparesRef s word (now (nodes .entry))) (readWord s h word (memory (now (nodes .entry)) (now (levels .entry)))) ⌝ }
+{
+    if refers_to(word, h.level) {
+        ends_new(s, h)
+    } else {
+        read_met(true, s, h, word, nodes, levels)
+    }
+}
+
+// The word that Append's exchange met. H: the node is placed. Another: as a failed Append.
+fn append_met(s: Settings, h: Head, word: u32, nodes: &[u32], levels: &[u32]) -> Turned
+    requires { ⌜ s .limit ≤ 8 ⌝ }
+    requires { ⌜ 1 ≤ h .«held_node» ⌝ }
+    ensures { λ r. ⌜ turned r (memory (now (nodes .entry)) (now (levels .entry))) ≡ exchangeTried s h [] word (memory (now (nodes .entry)) (now (levels .entry))) (endsNew s h (memory (now (nodes .entry)) (now (levels .entry)))) (followsRef 3 s h word (memory (now (nodes .entry)) (now (levels .entry)))) (followWord 3 s h word (memory (now (nodes .entry)) (now (levels .entry)))) ⌝ }
+{
+    if refers_to(word, h.level) {
+        ends_new(s, h)
+    } else {
+        follow_met(true, s, h, word, nodes, levels)
+    }
+}
+
+// The word that Close's exchange met. H: a Move to the level in hand begins. Another: as a failed Close.
+fn close_met(s: Settings, h: Head, word: u32, nodes: &[u32], levels: &[u32]) -> Turned
+    requires { ⌜ s .limit ≤ 8 ⌝ }
+    requires { ⌜ 1 ≤ h .«held_level» ⌝ }
+    ensures { λ r. ⌜ turned r (memory (now (nodes .entry)) (now (levels .entry))) ≡ exchangeTried s h [] word (memory (now (nodes .entry)) (now (levels .entry))) (beginsMove s h [] (memory (now (nodes .entry)) (now (levels .entry)))) (followsRef 3 s h word (memory (now (nodes .entry)) (now (levels .entry)))) (followWord 3 s h word (memory (now (nodes .entry)) (now (levels .entry)))) ⌝ }
+{
+    if refers_to(word, h.level) {
+        begins_move(s, h)
+    } else {
+        follow_met(true, s, h, word, nodes, levels)
+    }
 }
 
 // Level: a level is taken, and in hand for Close.
@@ -210,23 +275,7 @@ fn new_level(s: Settings, h: Head, nodes: &[u32], levels: &mut [u32]) -> Turned
     )
 }
 
-// Close: a Move begins where the level in hand is R's next now.
-fn close_chain(s: Settings, h: Head, nodes: &mut [u32], levels: &[u32]) -> Turned
-    requires { ⌜ 1 ≤ h .«held_level» ⌝ }
-    requires { ⌜ h .«held_level» ≤ 28689 ⌝ }
-    ensures { λ r. ⌜ turned r (memory (now (nodes .exit)) (now (levels .entry))) ≡ tried 0 (closed 3 Kind.Follow s h [] (memory (now (nodes .entry)) (now (levels .entry)))) ⌝ }
-{
-    let t = close_next(Kind::Follow, h, nodes);
-    answered(0, Answer::Open, s, t.head, t.child)
-}
-
-// Question 6 of the kinds that searching has alone. The entry x of K in H, or the word in it, is found once a turn.
-fn looks(s: Settings, h: Head, x: Cell, nodes: &[u32], levels: &[u32]) -> bool
-    requires { ⌜ x ≡ entryOf 3 h (now levels) ⌝ }
-    ensures { λ r. ⌜ r ≡ looks 3 s h (memory (now (nodes .entry)) (now (levels .entry))) ⌝ }
-{
-    and(picks_in(s, h.level, levels), reads_ref(s, x, nodes, levels))
-}
+// Parts of question 6 that searching has alone.
 
 fn takes(s: Settings, h: Head) -> bool
     ensures { λ r. ⌜ r ≡ takes s h ⌝ }
@@ -234,38 +283,12 @@ fn takes(s: Settings, h: Head) -> bool
     and(level_taken(s, h.level), le(h.held_node, s.nodes_taken))
 }
 
-fn puts(s: Settings, h: Head, levels: &[u32]) -> bool
-    ensures { λ r. ⌜ r ≡ puts 3 s h (now (levels .entry)) ⌝ }
+fn picks_with(s: Settings, h: Head, levels: &[u32]) -> bool
+    ensures { λ r. ⌜ r ≡ picksWith 3 s h (now (levels .entry)) ⌝ }
 {
     and(
         picks_in(s, h.level, levels),
         in_hand(h.held_node, s.nodes_taken),
-    )
-}
-
-fn reads(s: Settings, h: Head, word: u32, nodes: &[u32], levels: &[u32]) -> bool
-    requires { ⌜ word ≡ cellAt 3 (memory (now nodes) (now levels)) (entryOf 3 h (now levels)) ⌝ }
-    ensures { λ r. ⌜ r ≡ reads 3 s h (memory (now (nodes .entry)) (now (levels .entry))) ⌝ }
-{
-    and(picks_in(s, h.level, levels), compares_ref(s, word, nodes))
-}
-
-fn appends(s: Settings, h: Head) -> bool
-    ensures { λ r. ⌜ r ≡ appends s h ⌝ }
-{
-    and(stands_at(s, h), in_hand(h.held_node, s.nodes_taken))
-}
-
-fn follows(s: Settings, h: Head, nodes: &[u32], levels: &[u32]) -> bool
-    ensures { λ r. ⌜ r ≡ follows 3 s h (memory (now (nodes .entry)) (now (levels .entry))) ⌝ }
-{
-    let word = next_at(nodes, h.node);
-    and(
-        stands_at(s, h),
-        and(
-            compares_ref(s, word, nodes),
-            goes_back(s.levels_taken, h.level, word, levels),
-        ),
     )
 }
 
@@ -292,13 +315,9 @@ impl Worker {
         ensures { λ r. ⌜ turned r (memory (now (nodes .entry)) (now (levels .entry))) ≡ unlessSix (looks 3 s (self .head) (memory (now (nodes .entry)) (now (levels .entry)))) s (self .head) [] (memory (now (nodes .entry)) (now (levels .entry))) (tried 0 (look 3 s (self .head) (memory (now (nodes .entry)) (now (levels .entry))))) ⌝ }
     {
         let h = self.head;
-        let x = entry_of(h, levels);
-        if looks(s, h, x, nodes, levels) {
-            let word = cell_at(x, nodes, levels);
-            going(s, peeked(h, word, Kind::Take, Kind::Read))
-        } else {
-            refused_six(s, h)
-        }
+        let word = cell_at(entry_of(h, levels), nodes, levels);
+        let before = picks_in(s, h.level, levels);
+        peek_met(before, s, h, word, Kind::Take, Kind::Read)
     }
 
     // Take: use the spare node, else the next number, else the call ends "full".
@@ -312,12 +331,14 @@ impl Worker {
     // Put: exchange the entry from H to the node.
     pub fn put(self, s: Settings, nodes: &mut [u32], levels: &mut [u32]) -> Turned
         requires { ⌜ Sized s ⌝ }
-        ensures { λ r. ⌜ turned r (memory (now (nodes .exit)) (now (levels .exit))) ≡ unlessSix (puts 3 s (self .head) (now (levels .entry))) s (self .head) [] (memory (now (nodes .entry)) (now (levels .entry))) (tried 0 (put 3 s (self .head) (memory (now (nodes .entry)) (now (levels .entry))))) ⌝ }
+        ensures { λ r. ⌜ turned r (memory (now (nodes .exit)) (now (levels .exit))) ≡ unlessSix (puts 3 s (self .head) (memory (now (nodes .entry)) (now (levels .entry)))) s (self .head) [] (memory (now (nodes .entry)) (now (levels .entry))) (tried 0 (put 3 s (self .head) (memory (now (nodes .entry)) (now (levels .entry))))) ⌝ }
     {
         let h = self.head;
-        if puts(s, h, levels) {
+        if picks_with(s, h, levels) {
             let x = entry_of(h, levels);
-            place_node(Kind::Read, s, h, x, nodes, levels)
+            let n = node_ref(h.held_node - 1);
+            let word = exchange_from(h.level, x, n, nodes, levels);
+            put_met(s, h, word, nodes, levels)
         } else {
             refused_six(s, h)
         }
@@ -329,11 +350,8 @@ impl Worker {
     {
         let h = self.head;
         let word = cell_at(entry_of(h, levels), nodes, levels);
-        if reads(s, h, word, nodes, levels) {
-            read_word(s, h, word, nodes, levels)
-        } else {
-            refused_six(s, h)
-        }
+        let before = picks_in(s, h.level, levels);
+        read_met(before, s, h, word, nodes, levels)
     }
 
     // Tail: read R's next.
@@ -341,12 +359,9 @@ impl Worker {
         ensures { λ r. ⌜ turned r (memory (now (nodes .entry)) (now (levels .entry))) ≡ unlessSix (tails s (self .head) (now (nodes .entry))) s (self .head) [] (memory (now (nodes .entry)) (now (levels .entry))) (tried 0 (tail 3 s (self .head) (memory (now (nodes .entry)) (now (levels .entry))))) ⌝ }
     {
         let h = self.head;
-        if tails(s, h, nodes) {
-            let k = by_count(s, h.count, Kind::TakeTail, Kind::Level, Kind::Follow);
-            going(s, peeked(h, next_at(nodes, h.node), k, Kind::Follow))
-        } else {
-            refused_six(s, h)
-        }
+        let k = by_count(s, h.count, Kind::TakeTail, Kind::Level, Kind::Follow);
+        let word = next_at(nodes, h.node);
+        peek_met(stands_at(s, h), s, h, word, k, Kind::Follow)
     }
 
     // TakeTail: as Take, for R's next.
@@ -360,11 +375,13 @@ impl Worker {
     // Append: exchange R's next from H to the node.
     pub fn append(self, s: Settings, nodes: &mut [u32], levels: &mut [u32]) -> Turned
         requires { ⌜ Sized s ⌝ }
-        ensures { λ r. ⌜ turned r (memory (now (nodes .exit)) (now (levels .exit))) ≡ unlessSix (appends s (self .head)) s (self .head) [] (memory (now (nodes .entry)) (now (levels .entry))) (tried 0 (append 3 s (self .head) (memory (now (nodes .entry)) (now (levels .entry))))) ⌝ }
+        ensures { λ r. ⌜ turned r (memory (now (nodes .exit)) (now (levels .exit))) ≡ unlessSix (appends 3 s (self .head) (memory (now (nodes .entry)) (now (levels .entry)))) s (self .head) [] (memory (now (nodes .entry)) (now (levels .entry))) (tried 0 (append 3 s (self .head) (memory (now (nodes .entry)) (now (levels .entry))))) ⌝ }
     {
         let h = self.head;
-        if appends(s, h) {
-            place_node(Kind::Follow, s, h, Cell::Next(h.node), nodes, levels)
+        if stands_with(s, h, h.held_node, s.nodes_taken) {
+            let n = node_ref(h.held_node - 1);
+            let word = exchange_from(h.level, Cell::Next(h.node), n, nodes, levels);
+            append_met(s, h, word, nodes, levels)
         } else {
             refused_six(s, h)
         }
@@ -384,13 +401,15 @@ impl Worker {
     }
 
     // Close: exchange R's next from H to the level in hand.
-    pub fn close(self, s: Settings, nodes: &mut [u32], levels: &[u32]) -> Turned
+    pub fn close(self, s: Settings, nodes: &mut [u32], levels: &mut [u32]) -> Turned
         requires { ⌜ Sized s ⌝ }
-        ensures { λ r. ⌜ turned r (memory (now (nodes .exit)) (now (levels .entry))) ≡ unlessSix (closes s (self .head)) s (self .head) [] (memory (now (nodes .entry)) (now (levels .entry))) (tried 0 (close 3 s (self .head) (memory (now (nodes .entry)) (now (levels .entry))))) ⌝ }
+        ensures { λ r. ⌜ turned r (memory (now (nodes .exit)) (now (levels .exit))) ≡ unlessSix (closes 3 s (self .head) (memory (now (nodes .entry)) (now (levels .entry)))) s (self .head) [] (memory (now (nodes .entry)) (now (levels .entry))) (tried 0 (close 3 s (self .head) (memory (now (nodes .entry)) (now (levels .entry))))) ⌝ }
     {
         let h = self.head;
-        if closes(s, h) {
-            close_chain(s, h, nodes, levels)
+        if stands_with(s, h, h.held_level, s.levels_taken) {
+            let g = level_ref(h.held_level - 1);
+            let word = exchange_from(h.level, Cell::Next(h.node), g, nodes, levels);
+            close_met(s, h, word, nodes, levels)
         } else {
             refused_six(s, h)
         }
@@ -402,11 +421,8 @@ impl Worker {
         ensures { λ r. ⌜ turned r (memory (now (nodes .entry)) (now (levels .entry))) ≡ unlessSix (follows 3 s (self .head) (memory (now (nodes .entry)) (now (levels .entry)))) s (self .head) [] (memory (now (nodes .entry)) (now (levels .entry))) (tried 0 (follow 3 s (self .head) (memory (now (nodes .entry)) (now (levels .entry))))) ⌝ }
     {
         let h = self.head;
-        if follows(s, h, nodes, levels) {
-            follow_word(s, h, next_at(nodes, h.node), nodes, levels)
-        } else {
-            refused_six(s, h)
-        }
+        let word = next_at(nodes, h.node);
+        follow_met(stands_at(s, h), s, h, word, nodes, levels)
     }
 
     // One turn of a search, by its kind. Another kind is none of a search.

@@ -1,54 +1,75 @@
 // What all sequences together reached. What they had to reach and did not fails the test.
 use crate::model::{Areas, Kind, Kind::*, Settings, KINDS};
-use crate::mutants::Mutant;
+use crate::mutants::Chosen;
 use crate::pair::{Pair, OPERATIONS};
 
 #[derive(Default)]
 pub struct Total {
     pub turns: u64,
     // the wrong version that the model of every further sequence has
-    pub mutant: Option<&'static Mutant>,
+    pub mutant: Option<Chosen>,
     went: [[u64; 23]; 23],
+    failed: [[u64; 23]; 23],
     nested: [u64; 8],
     sixes: [u64; 24],
+    failed_sixes: [u64; 23],
     numbers: [[u64; 10]; 5],
 }
 
 // the numbers that each operation can give, in the order of OPERATIONS
 const NUMBERS: [&[usize]; 5] = [&[0, 1, 2], &[0, 1, 2, 3, 4, 5, 6, 7], &[0, 1, 2, 3, 4, 6, 8, 9], &[0, 1, 2, 3, 4, 6], &[0, 1, 2, 3, 4, 6]];
 
-// the kinds that follow each kind of turn, in the order of KINDS; Idle is the call's end. Put to Read, Append and Close to Follow, and their like in a
-// Move, are failed exchanges.
+// the kinds that follow each kind of turn, in the order of KINDS; Idle is the call's end. Turns whose exchange failed are apart, below.
 const FOLLOWS: [&[Kind]; 23] = [
     &[],
     &[Take, Read],
     &[Put, Idle],
-    &[Idle, Read],
+    &[Idle],
     &[Idle, Tail, Look],
     &[TakeTail, Level, Follow],
     &[Append, Idle],
-    &[Idle, Follow],
+    &[Idle],
     &[Close],
-    &[ChainHead, Follow],
+    &[ChainHead],
     &[Idle, Tail, Look],
     &[ChainNext, MoveEnd],
     &[ChainNext, SetNext],
     &[SetLook],
     &[SetPut, SetRead],
-    &[SetNext, MoveEnd, SetRead],
+    &[SetNext, MoveEnd],
     &[SetTail, SetNext],
     &[SetAppend, SetLevel, SetFollow],
-    &[SetNext, MoveEnd, SetFollow],
+    &[SetNext, MoveEnd],
     &[SetClose],
-    &[ChainHead, SetFollow],
+    &[ChainHead],
     &[SetTail, SetNext],
     &[Look, SetNext],
 ];
+
+// the kinds that follow a failed exchange: a pixel is compared in a search alone
+fn follows_failed(kind: Kind) -> &'static [Kind] {
+    match kind {
+        Put | Append | Close => &[Idle, Tail, Look],
+        SetPut | SetAppend | SetClose => &[SetTail, SetNext],
+        _ => &[],
+    }
+}
 
 fn add(to: &mut [u64], from: &[u64]) {
     for (x, y) in to.iter_mut().zip(from) {
         *x += y;
     }
+}
+
+fn kinds(times: &[u64; 23]) -> String {
+    let to: Vec<String> = (0..23).filter(|&n| times[n] > 0).map(|n| format!("{:?} {}", KINDS[n], times[n])).collect();
+    to.join(", ")
+}
+
+// kinds that came although they do not follow, and that did not although they do
+fn otherwise(name: &str, times: &[u64; 23], follows: &[Kind]) -> Vec<String> {
+    let wrong = (0..23).filter(|&n| follows.contains(&KINDS[n]) != (times[n] > 0));
+    wrong.map(|n| format!("{name} then {:?}, {} times", KINDS[n], times[n])).collect()
 }
 
 impl Total {
@@ -61,11 +82,12 @@ impl Total {
     pub fn add(&mut self, p: &Pair) {
         let s = &p.model.seen;
         self.turns += p.turns();
-        for (x, y) in self.went.iter_mut().zip(&s.went) {
+        for (x, y) in self.went.iter_mut().zip(&s.went).chain(self.failed.iter_mut().zip(&s.failed)) {
             add(x, y);
         }
         add(&mut self.nested, &s.nested);
         add(&mut self.sixes, &s.sixes);
+        add(&mut self.failed_sixes, &s.failed_sixes);
         for (x, y) in self.numbers.iter_mut().zip(&p.numbers) {
             add(x, y);
         }
@@ -76,6 +98,7 @@ impl Total {
         let mut bad = vec![];
         println!("{} turns compared", self.turns);
         self.report_kinds(&mut bad);
+        self.report_failed(&mut bad);
         println!("records that do not fit: {}; Moves open, 1 to 7: {:?}", self.sixes[23], &self.nested[1..]);
         bad.extend((1..8).filter(|&k| self.nested[k] == 0).map(|k| format!("{k} Moves")));
         if self.sixes[23] == 0 {
@@ -87,15 +110,24 @@ impl Total {
 
     fn report_kinds(&self, bad: &mut Vec<String>) {
         for k in 1..23 {
-            let to: Vec<String> = (0..23).filter(|&n| self.went[k][n] > 0).map(|n| format!("{:?} {}", KINDS[n], self.went[k][n])).collect();
-            println!("{:?}, then {}; 6 {} times", KINDS[k], to.join(", "), self.sixes[k]);
-            for n in 0..23 {
-                if FOLLOWS[k].contains(&KINDS[n]) != (self.went[k][n] > 0) {
-                    bad.push(format!("{:?} then {:?}, {} times", KINDS[k], KINDS[n], self.went[k][n]));
-                }
-            }
+            println!("{:?}, then {}; 6 {} times", KINDS[k], kinds(&self.went[k]), self.sixes[k]);
+            bad.extend(otherwise(&format!("{:?}", KINDS[k]), &self.went[k], FOLLOWS[k]));
             if self.sixes[k] == 0 {
                 bad.push(format!("6 of {:?}", KINDS[k]));
+            }
+        }
+    }
+
+    fn report_failed(&self, bad: &mut Vec<String>) {
+        for k in 1..23 {
+            let (name, follows) = (format!("failed {:?}", KINDS[k]), follows_failed(KINDS[k]));
+            let times: u64 = self.failed[k].iter().sum();
+            if !follows.is_empty() {
+                println!("{name} {times} times, then {}; 6 by the word met {} times", kinds(&self.failed[k]), self.failed_sixes[k]);
+            }
+            bad.extend(otherwise(&name, &self.failed[k], follows));
+            if follows.is_empty() != (self.failed_sixes[k] == 0) {
+                bad.push(format!("6 by the word met of {name}, {} times", self.failed_sixes[k]));
             }
         }
     }

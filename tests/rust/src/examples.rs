@@ -1,4 +1,4 @@
-// Document 01's examples by name, with its numbers: the bench cases on the running table, and every other one.
+// Document 01's examples by name, with its numbers as document 02 has changed them: the bench cases on the running table, and every other one.
 use crate::coverage::Total;
 use crate::model::{Kind, FOUND, FULL, KINDS, NEW, NONE, NOTHING, OPEN};
 use crate::pair::{Compared, Op, Pair};
@@ -60,7 +60,7 @@ fn bench_cases(total: &mut Total) -> Compared<()> {
     after_first(total, "P3", (1, 4, 8), vec![Start(0, 0, 1, 0), Runs(0, 5, 0, NEW, 1)])?;
     let race = |more: Vec<Line>| {
         let one = |i| Runs(i, 1, 0, OPEN, 0);
-        let turns = vec![Start(0, 0, 0, 0), Start(1, 0, 0, 0), one(0), one(1), one(0), one(1), Runs(0, 1, 0, NEW, 0), Runs(1, 2, 0, FOUND, 0)];
+        let turns = vec![Start(0, 0, 0, 0), Start(1, 0, 0, 0), one(0), one(1), one(0), one(1), Runs(0, 1, 0, NEW, 0), Runs(1, 1, 0, FOUND, 0)];
         turns.into_iter().chain(more).collect::<Vec<_>>()
     };
     row(total, "P4", (2, 4, 8), &race(vec![Taken(2, 1)]))?;
@@ -80,10 +80,11 @@ fn bench_cases(total: &mut Total) -> Compared<()> {
     row(total, "worker 16 of 16 in row 4,096: 4 before 5", (16, 8, 1), &[Start(16, 4096, 0, 4)])
 }
 
-// The lines of the text program's example on the operations: what it prints between header and end line, and that line.
+// The lines of the text program's example on the operations: what it prints between header and end line, and that line. "In the printed race worker 1
+// ends a turn earlier and line 10 prints `refused,10,8`."
 fn printed_race(total: &mut Total) -> Compared<()> {
     let input = "s,2,4,8 c,0,0,0 c,1,0,0 t,0 t,1 t,0 t,1 t,0 t,1 t,1";
-    let output = "0,0,0,new,0 1,0,0,found,0 end,2,1";
+    let output = "0,0,0,new,0 1,0,0,found,0 refused,10,8 end,2,1";
     let lines: Vec<Vec<&str>> = input.split(' ').map(|line| line.split(',').collect()).collect();
     let number = |line: usize, field: usize| lines[line][field].parse::<u32>().unwrap();
     let mut p = opened(total, settings(number(0, 1), number(0, 2), number(0, 3)), 0, 0, "the printed race")?;
@@ -96,7 +97,9 @@ fn printed_race(total: &mut Total) -> Compared<()> {
             continue;
         }
         let q = p.run(Op::Turn(i))?;
-        if q.answer != OPEN {
+        if q.number != 0 {
+            printed.push(format!("refused,{},{}", k + 1, q.number));
+        } else if q.answer != OPEN {
             let (row, column) = pixel[i as usize];
             printed.push(format!("{i},{row},{column},{},{}", ["none", "new", "found", "full"][q.answer as usize], q.node));
         }

@@ -7,6 +7,7 @@
 //   leafdrum_tests text SEED                       one random text again, as a difference names it
 mod coverage;
 mod examples;
+mod exchanges;
 mod model;
 mod mutants;
 mod pair;
@@ -33,6 +34,7 @@ fn everything(seed: u64, turns: u64) -> Compared<Vec<String>> {
     let mut total = Total::default();
     let r = &mut Random::new(seed);
     examples::all(&mut total)?;
+    exchanges::all(&mut total)?;
     refusals::all(seed, &mut total)?;
     sequences::written(&mut total)?;
     let mut missing = six::aimed(seed, &mut total)?;

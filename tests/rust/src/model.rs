@@ -1,5 +1,5 @@
-// A model of the table coded apart, from document 01 and docs/LAYOUT.md. Nodes and levels are records of any 32-bit values; a worker is a type of
-// its own, read from its words before an operation and written back after it. Nothing here is taken from the Rattle code.
+// A model of the table coded apart, from document 01, document 02's request 05 and docs/LAYOUT.md. Nodes and levels are records of any 32-bit values;
+// a worker is a type of its own, read from its words before an operation and written back after it. Nothing here is taken from the Rattle code.
 
 use crate::pair::Op;
 
@@ -165,18 +165,45 @@ pub struct Worker {
     pub moves: Vec<Chain>,
 }
 
-// What was seen, for coverage: turns by their kind and the one after it, Moves open, and 6 by kind (23: the record does not fit).
+// The one word that an exchange is about.
+#[derive(Clone, Copy)]
+enum Cell {
+    Entry(u32, usize),
+    Next(u32),
+}
+
+#[derive(Clone, Copy)]
+enum Exchanged {
+    Done,
+    Met(u32),
+}
+
+// What was seen, for coverage: turns by their kind and the one after it, those whose exchange failed apart; Moves open; 6 by kind (23: the record
+// does not fit), and how many of these by the word that a failed exchange met.
 #[derive(Clone, Debug, Default)]
 pub struct Seen {
     pub went: [[u64; 23]; 23],
+    pub failed: [[u64; 23]; 23],
     pub nested: [u64; 8],
     pub sixes: [u64; 24],
+    pub failed_sixes: [u64; 23],
+}
+
+impl Seen {
+    // turns carried out, "full" included
+    pub fn turns(&self) -> u64 {
+        self.went.iter().chain(&self.failed).flatten().sum()
+    }
 }
 
 pub struct Model {
     pub settings: Settings,
     pub areas: Areas,
     pub seen: Seen,
+    // the word that the newest turn's exchange met, if it failed
+    pub met: Option<u32>,
+    // the newest turn's exchange would have been done, and was refused for want of room for a Move
+    pub withheld: bool,
 }
 
 type Asked<T> = Result<T, u32>;
@@ -191,7 +218,7 @@ fn yes(b: bool) -> Asked<()> {
 
 impl Model {
     pub fn new(settings: Settings, areas: Areas) -> Model {
-        Model { settings, areas, seen: Seen::default() }
+        Model { settings, areas, seen: Seen::default(), met: None, withheld: false }
     }
 
     fn reply(&self, number: u32, answer: u32, node: u32, turns: u32) -> Reply {
@@ -363,6 +390,7 @@ impl Model {
 
     // one turn, questions 1 to 4 being answered yes
     fn one(&mut self, i: u32) -> Reply {
+        (self.met, self.withheld) = (None, false);
         let r = match self.worker(i) {
             Err(n) => {
                 self.seen.sixes[23] += 1;
@@ -386,10 +414,12 @@ impl Model {
             }
             Err(n) => {
                 self.seen.sixes[kind as usize] += 1;
+                self.seen.failed_sixes[kind as usize] += self.met.is_some() as u64;
                 self.refuse(n)
             }
             Ok((r, answer, node)) => {
-                self.seen.went[kind as usize][r.kind as usize] += 1;
+                let seen = if self.met.is_some() { &mut self.seen.failed } else { &mut self.seen.went };
+                seen[kind as usize][r.kind as usize] += 1;
                 self.seen.nested[r.moves.len()] += 1;
                 self.keep(i, &r);
                 self.reply(0, answer, node, 0)
@@ -501,7 +531,40 @@ impl Model {
         Ok(())
     }
 
-    fn met(&self, mut r: Worker, word: u32, count: u32, down: impl Fn(&Model, u32) -> Asked<u32>) -> Asked<(Worker, u32, u32)> {
+    // ""Exchange x from a to b" writes b only if x holds a"; "The new board's exchange returns what it found"
+    fn exchange(&mut self, x: Cell, from: u32, to: u32) -> Exchanged {
+        let word = match x {
+            Cell::Entry(g, e) => &mut self.areas.levels[10 * g as usize + 2 + e],
+            Cell::Next(n) => &mut self.areas.nodes[2 * n as usize + 1],
+        };
+        if *word == from {
+            *word = to;
+            return Exchanged::Done;
+        }
+        self.met = Some(*word);
+        Exchanged::Met(*word)
+    }
+
+    // With seven Moves open no exchange is made: R's next is only read. A word that would let the exchange be done, so that an eighth Move began, is
+    // refused; on another word it has failed.
+    fn without_room(&mut self, r: &Worker) -> Asked<Exchanged> {
+        let word = self.areas.node(r.node).next;
+        self.withheld = word == 2 * r.level;
+        yes(!self.withheld)?;
+        self.met = Some(word);
+        Ok(Exchanged::Met(word))
+    }
+
+    // What Read does with its word, and a failed Put with the word it met.
+    fn as_read(&self, r: Worker, word: u32) -> Asked<(Worker, u32, u32)> {
+        self.as_search(r, word, 1, |_, t| Ok(t))
+    }
+    // What Follow does with its word, and a failed Append or Close with the word it met.
+    fn as_follow(&self, r: Worker, word: u32) -> Asked<(Worker, u32, u32)> {
+        let (count, h) = (self.next_count(r.count), r.level);
+        self.as_search(r, word, count, |m, t| m.back(t, h))
+    }
+    fn as_search(&self, mut r: Worker, word: u32, count: u32, down: impl Fn(&Model, u32) -> Asked<u32>) -> Asked<(Worker, u32, u32)> {
         match self.taken(word)? {
             Ref::Node(n) => {
                 if self.node_pixel(n)? == r.pixel {
@@ -522,6 +585,29 @@ impl Model {
         Ok((r, OPEN, 0))
     }
 
+    // "the same inside a Move": SetRead and a failed SetPut; no pixel is compared there.
+    fn as_set_read(&self, r: &mut Worker, word: u32) -> Asked<()> {
+        match self.taken(word)? {
+            Ref::Node(n) => (r.kind, r.node, r.count) = (Kind::SetTail, n, 1),
+            Ref::Level(t) => (r.kind, r.level) = (Kind::SetNext, t),
+        }
+        Ok(())
+    }
+    // SetFollow, and a failed SetAppend or SetClose.
+    fn as_set_follow(&self, r: &mut Worker, word: u32) -> Asked<()> {
+        match self.taken(word)? {
+            Ref::Node(n) => (r.kind, r.node, r.count) = (Kind::SetTail, n, self.next_count(r.count)),
+            Ref::Level(t) => (r.kind, r.level) = (Kind::SetNext, self.back(t, r.level)?),
+        }
+        Ok(())
+    }
+
+    // N is set
+    fn set(&self, r: &mut Worker) {
+        r.moves.last_mut().unwrap().count -= 1;
+        self.after_node(r);
+    }
+
     // the node set is done: the next one, or the entry
     fn after_node(&self, r: &mut Worker) {
         let m = r.moves.last().unwrap();
@@ -531,6 +617,12 @@ impl Model {
             r.kind = Kind::SetNext;
             r.level = m.child;
         }
+    }
+
+    // N, and where it goes in the level that it is set into
+    fn entry_of_n(&self, r: &Worker) -> Asked<(u32, usize)> {
+        let n = r.moves.last().unwrap().last();
+        Ok((n, self.entry(r.level, self.node_pixel(n)?)?))
     }
 
     // the key of the innermost Move
@@ -579,40 +671,34 @@ impl Model {
                 self.new_node(&mut r)?;
                 r.kind = Append;
             }
+            // a failed exchange leaves what is held as it is: the node in hand is spare then, and so is the level
             Put => {
                 let e = self.entry(r.level, r.pixel)?;
                 let n = self.held(r.held_node, self.settings.nodes_taken)?;
-                let mut l = self.areas.level(r.level);
-                if l.entries[e] == 2 * r.level {
-                    l.entries[e] = 2 * n + 1;
-                    self.areas.set_level(r.level, l);
-                    return Ok((Self::ended(r, n), NEW, n));
-                }
-                r.kind = Read;
+                return match self.exchange(Cell::Entry(r.level, e), 2 * r.level, 2 * n + 1) {
+                    Exchanged::Done => Ok((Self::ended(r, n), NEW, n)),
+                    Exchanged::Met(word) => self.as_read(r, word),
+                };
             }
             Append => {
                 self.level_taken(r.level)?;
                 self.node_taken(r.node)?;
                 let n = self.held(r.held_node, self.settings.nodes_taken)?;
-                let mut x = self.areas.node(r.node);
-                if x.next == 2 * r.level {
-                    x.next = 2 * n + 1;
-                    self.areas.set_node(r.node, x);
-                    return Ok((Self::ended(r, n), NEW, n));
-                }
-                r.kind = Follow;
+                return match self.exchange(Cell::Next(r.node), 2 * r.level, 2 * n + 1) {
+                    Exchanged::Done => Ok((Self::ended(r, n), NEW, n)),
+                    Exchanged::Met(word) => self.as_follow(r, word),
+                };
             }
             Read => {
                 let e = self.entry(r.level, r.pixel)?;
                 let word = self.areas.level(r.level).entries[e];
-                return self.met(r, word, 1, |_, t| Ok(t));
+                return self.as_read(r, word);
             }
             Follow => {
                 self.level_taken(r.level)?;
                 self.node_taken(r.node)?;
                 let word = self.areas.node(r.node).next;
-                let (count, h) = (self.next_count(r.count), r.level);
-                return self.met(r, word, count, |m, t| m.back(t, h));
+                return self.as_follow(r, word);
             }
             Tail | SetTail => {
                 self.level_taken(r.level)?;
@@ -640,17 +726,15 @@ impl Model {
                 self.level_taken(r.level)?;
                 self.node_taken(r.node)?;
                 let g = self.held(r.held_level, self.settings.levels_taken)?;
-                let mut x = self.areas.node(r.node);
-                let done = x.next == 2 * r.level;
-                yes(!(done && r.moves.len() == 7))?;
-                if done {
-                    x.next = 2 * g;
-                    self.areas.set_node(r.node, x);
-                    r.held_level = 0;
-                    r.kind = ChainHead;
-                    r.moves.push(Chain { home: r.level, child: g, count: 0, nodes: [0; 8] });
-                } else {
-                    r.kind = if kind == Close { Follow } else { SetFollow };
+                let exchanged = if r.moves.len() < 7 { self.exchange(Cell::Next(r.node), 2 * r.level, 2 * g) } else { self.without_room(&r)? };
+                match exchanged {
+                    Exchanged::Done => {
+                        r.held_level = 0;
+                        r.kind = ChainHead;
+                        r.moves.push(Chain { home: r.level, child: g, count: 0, nodes: [0; 8] });
+                    }
+                    Exchanged::Met(word) if kind == Close => return self.as_follow(r, word),
+                    Exchanged::Met(word) => self.as_set_follow(&mut r, word)?,
                 }
             }
             ChainHead => {
@@ -675,67 +759,39 @@ impl Model {
                 self.areas.set_node(n, x);
                 r.kind = SetLook;
             }
-            SetLook | SetRead | SetPut => {
-                let n = r.moves.last().unwrap().last();
-                let e = self.entry(r.level, self.node_pixel(n)?)?;
-                let mut l = self.areas.level(r.level);
-                let word = l.entries[e];
-                if kind == SetPut {
-                    if word == 2 * r.level {
-                        l.entries[e] = 2 * n + 1;
-                        self.areas.set_level(r.level, l);
-                        r.moves.last_mut().unwrap().count -= 1;
-                        self.after_node(&mut r);
-                    } else {
-                        r.kind = SetRead;
-                    }
-                } else if kind == SetLook {
-                    self.taken(word)?;
-                    r.kind = if word == 2 * r.level { SetPut } else { SetRead };
-                } else {
-                    match self.taken(word)? {
-                        Ref::Node(x) => {
-                            r.kind = SetTail;
-                            r.node = x;
-                            r.count = 1;
-                        }
-                        Ref::Level(t) => {
-                            r.kind = SetNext;
-                            r.level = t;
-                        }
-                    }
+            SetLook => {
+                let (_, e) = self.entry_of_n(&r)?;
+                let word = self.areas.level(r.level).entries[e];
+                self.taken(word)?;
+                r.kind = if word == 2 * r.level { SetPut } else { SetRead };
+            }
+            SetPut => {
+                let (n, e) = self.entry_of_n(&r)?;
+                match self.exchange(Cell::Entry(r.level, e), 2 * r.level, 2 * n + 1) {
+                    Exchanged::Done => self.set(&mut r),
+                    Exchanged::Met(word) => self.as_set_read(&mut r, word)?,
                 }
+            }
+            SetRead => {
+                let (_, e) = self.entry_of_n(&r)?;
+                let word = self.areas.level(r.level).entries[e];
+                self.as_set_read(&mut r, word)?;
             }
             SetAppend => {
                 let n = r.moves.last().unwrap().last();
                 self.node_taken(n)?;
                 self.level_taken(r.level)?;
                 self.node_taken(r.node)?;
-                let mut x = self.areas.node(r.node);
-                if x.next == 2 * r.level {
-                    x.next = 2 * n + 1;
-                    self.areas.set_node(r.node, x);
-                    r.moves.last_mut().unwrap().count -= 1;
-                    self.after_node(&mut r);
-                } else {
-                    r.kind = SetFollow;
+                match self.exchange(Cell::Next(r.node), 2 * r.level, 2 * n + 1) {
+                    Exchanged::Done => self.set(&mut r),
+                    Exchanged::Met(word) => self.as_set_follow(&mut r, word)?,
                 }
             }
             SetFollow => {
                 self.level_taken(r.level)?;
                 self.node_taken(r.node)?;
                 let word = self.areas.node(r.node).next;
-                match self.taken(word)? {
-                    Ref::Node(x) => {
-                        r.count = self.next_count(r.count);
-                        r.kind = SetTail;
-                        r.node = x;
-                    }
-                    Ref::Level(t) => {
-                        r.level = self.back(t, r.level)?;
-                        r.kind = SetNext;
-                    }
-                }
+                self.as_set_follow(&mut r, word)?;
             }
             MoveEnd => {
                 let key = self.key(&r)?;

@@ -1,22 +1,64 @@
 // Wrong versions of the model: each alters what the model leaves after one operation, and the comparison must find it. So a table that were wrong in
-// the same way would be found. There is at least one for each kind of turn; document 01's shortcuts and wrong firmwares are among them.
+// the same way would be found. There is at least one for each kind of turn, and several for each kind of exchange that fails; document 01's shortcuts
+// and wrong firmwares are among them.
 use crate::coverage::Total;
+use crate::exchanges;
 use crate::model::{Areas, Kind, Kind::*, Model, Reply, Settings, FOUND, FULL, KINDS, NEW, NOTHING, OPEN};
 use crate::pair::{Compared, Op};
 use crate::random::Random;
 use crate::sequences;
+use crate::six;
 use crate::words::*;
 
 pub struct Mutant {
     name: &'static str,
-    // of turns of this kind that were carried out; else of every operation that was carried out
-    kind: Option<Kind>,
+    of: Of,
     wrong: fn(&Op, &mut Wrong),
 }
 
-impl Mutant {
+// What a wrong version alters.
+#[derive(Clone, Copy)]
+enum Of {
+    // every operation that was carried out
+    Operations,
+    // turns of this kind that were carried out; of an exchange, those in which it was done
+    Turns(Kind),
+    // of these kinds, one by one, turns that were carried out and whose exchange failed
+    Failed(&'static [Kind]),
+    // the same on memory spoiled at question 6, with turns that it refused by the word met
+    Asked(&'static [Kind]),
+    // on that memory, turns that were carried out and of which no exchange failed
+    Spoiled(&'static [Kind]),
+    // on that memory, turns that it refused although their exchange would be done: for want of room for a Move
+    Refused(&'static [Kind]),
+}
+
+const EXCHANGES: &[Kind] = &[Put, Append, Close, SetPut, SetAppend, SetClose];
+// the exchanges of a search, which compare the pixel of a node met; those in a Move, which do not
+const SEARCHING: &[Kind] = &[Put, Append, Close];
+const MOVING: &[Kind] = &[SetPut, SetAppend, SetClose];
+// the exchanges at R, which go back from a level met
+const AT_R: &[Kind] = &[Append, Close, SetAppend, SetClose];
+
+// A wrong version, and the one of its kinds that it alters here.
+#[derive(Clone, Copy)]
+pub struct Chosen {
+    mutant: &'static Mutant,
+    kind: Option<Kind>,
+}
+
+impl Chosen {
     pub fn alter(&self, op: &Op, before: &Areas, given: Settings, model: &mut Model, reply: &mut Reply) {
-        if !matches!(reply.number, 0 | 9) {
+        let (turn, number, failed) = (matches!(op, Op::Turn(_)), reply.number, model.met.is_some());
+        let altered = match self.mutant.of {
+            Of::Operations => matches!(number, 0 | 9),
+            Of::Turns(_) => turn && number == 0 && !failed,
+            Of::Failed(_) => turn && number == 0 && failed,
+            Of::Asked(_) => turn && matches!(number, 0 | 6) && failed,
+            Of::Spoiled(_) => turn && number == 0 && !failed,
+            Of::Refused(_) => turn && number == 6 && model.withheld,
+        };
+        if !altered {
             return;
         }
         let worker = match op {
@@ -24,13 +66,18 @@ impl Mutant {
             Op::Open | Op::Turns(..) => 0,
         };
         let mut x = Wrong { before, given, model, reply, worker };
-        if let Some(kind) = self.kind {
-            if !matches!(op, Op::Turn(_)) || x.reply.number != 0 || x.was(KIND) != kind as u32 {
-                return;
-            }
+        if self.kind.is_some_and(|kind| x.was(KIND) != kind as u32) {
+            return;
         }
-        (self.wrong)(op, &mut x);
+        (self.mutant.wrong)(op, &mut x);
         x.reply.settings = x.model.settings;
+    }
+
+    fn name(&self) -> String {
+        match (self.mutant.of, self.kind) {
+            (Of::Failed(_) | Of::Asked(_) | Of::Spoiled(_) | Of::Refused(_), Some(kind)) => format!("{kind:?}: {}", self.mutant.name),
+            _ => self.mutant.name.to_string(),
+        }
     }
 }
 
@@ -72,6 +119,12 @@ impl Wrong<'_> {
             self.set(word, v);
         }
     }
+    // having gone to this kind, its turn is done too
+    fn and_at_once(&mut self, kind: Kind, op: &Op) {
+        if self.went_to(kind) {
+            *self.reply = self.model.run(op);
+        }
+    }
     fn put(&mut self, place: Place, v: u32) {
         *place.of(&mut self.model.areas, &mut self.model.settings) = v;
     }
@@ -101,6 +154,101 @@ impl Wrong<'_> {
     fn level_met(&self) -> u32 {
         self.view().read() / 2
     }
+    // the word that the failed exchange met
+    fn met(&self) -> u32 {
+        self.model.met.unwrap()
+    }
+    fn met_is_taken(&self) -> bool {
+        self.met() / 2 < if is_node(self.met()) { self.given.nodes_taken } else { self.given.levels_taken }
+    }
+    // a node is met that holds no pixel
+    fn met_no_pixel(&self) -> bool {
+        is_node(self.met()) && self.met_is_taken() && self.view().get(self.view().pixel_of(self.met() / 2)) > TOP
+    }
+    fn in_a_move(&self) -> bool {
+        self.was(MOVES) > 0
+    }
+    // the turn is undone and answered so
+    fn undone(&mut self, number: u32, answer: u32) {
+        self.model.areas.copy(self.before);
+        self.model.settings = self.given;
+        (self.reply.number, self.reply.answer, self.reply.node) = (number, answer, 0);
+    }
+    // the turn leaves all but its kind, which is this one
+    fn only_goes_to(&mut self, kind: Kind) {
+        self.undone(0, OPEN);
+        self.to(kind);
+    }
+    // the kind that reads the word once more
+    fn reading(&self) -> Kind {
+        match self.view().kind() {
+            Put => Read,
+            SetPut => SetRead,
+            SetAppend | SetClose => SetFollow,
+            _ => Follow,
+        }
+    }
+    // acts on a word, with this count for a node; nothing is asked or compared, nothing is gone back from
+    fn goes_on(&mut self, word: u32, count: u32) {
+        let (at_node, at_level) = if self.in_a_move() { (SetTail, SetNext) } else { (Tail, Look) };
+        self.only_goes_to(if is_node(word) { at_node } else { at_level });
+        if is_node(word) {
+            self.set(NODE, word / 2);
+            self.set(COUNT, count);
+        } else {
+            self.set(LEVEL, word / 2);
+        }
+    }
+    fn count_raised(&self) -> u32 {
+        match self.view().kind() {
+            Put | SetPut => 1,
+            _ => self.one_more(),
+        }
+    }
+    // the count before the turn and one more, as Follow has it
+    fn one_more(&self) -> u32 {
+        (self.was(COUNT) + 1).min(self.given.limit + 1)
+    }
+    // from this level back to the one below H, over at most so many previous words, each naming one of the first levels
+    fn back(&self, from: u32, most: usize, levels: u32) -> Option<u32> {
+        let (v, mut at) = (self.view(), from);
+        for _ in 0..most {
+            if at >= levels {
+                return None;
+            }
+            let previous = v.get(v.previous_of(at));
+            if previous == v.word(LEVEL) {
+                return Some(at);
+            }
+            at = previous;
+        }
+        None
+    }
+    // the same from a taken level met, where the turn was refused
+    fn back_refused(&self, most: usize, levels: u32) -> Option<u32> {
+        let level = self.reply.number == 6 && !is_node(self.met()) && self.met_is_taken();
+        Some(self.met() / 2).filter(|_| level).and_then(|g| self.back(g, most, levels))
+    }
+    // a level that the turn has gone to is gone back from, as Follow does
+    fn goes_back_from(&mut self, word: u32) {
+        if is_node(word) || self.reply.number != 0 {
+            return;
+        }
+        match self.back(word / 2, 7, self.given.levels_taken) {
+            Some(g) => self.goes_on(2 * g, 0),
+            None => self.undone(6, NOTHING),
+        }
+    }
+    // the level in hand is written to R's next
+    fn closes(&mut self) {
+        self.put(self.view().cell(), 2 * (self.was(HELD_LEVEL) - 1));
+    }
+    // the entry that the one to be placed or set has in the worker's level
+    fn its_entry(&self) -> u32 {
+        let v = self.view();
+        let pixel = if self.in_a_move() { v.get(v.pixel_of(v.n())) } else { v.word(PIXEL) };
+        v.get(v.entry_of(v.word(LEVEL), pixel))
+    }
     // another operation is done in place of this one
     fn instead(&mut self, op: &Op) {
         self.model.areas.copy(self.before);
@@ -115,26 +263,32 @@ impl Wrong<'_> {
 }
 
 const fn turn(kind: Kind, name: &'static str, wrong: fn(&Op, &mut Wrong)) -> Mutant {
-    Mutant { name, kind: Some(kind), wrong }
+    Mutant { name, of: Of::Turns(kind), wrong }
+}
+const fn failed(kinds: &'static [Kind], name: &'static str, wrong: fn(&Op, &mut Wrong)) -> Mutant {
+    Mutant { name, of: Of::Failed(kinds), wrong }
+}
+const fn asked(kinds: &'static [Kind], name: &'static str, wrong: fn(&Op, &mut Wrong)) -> Mutant {
+    Mutant { name, of: Of::Asked(kinds), wrong }
+}
+const fn spoiled(kinds: &'static [Kind], name: &'static str, wrong: fn(&Op, &mut Wrong)) -> Mutant {
+    Mutant { name, of: Of::Spoiled(kinds), wrong }
+}
+const fn refused(kinds: &'static [Kind], name: &'static str, wrong: fn(&Op, &mut Wrong)) -> Mutant {
+    Mutant { name, of: Of::Refused(kinds), wrong }
 }
 const fn operation(name: &'static str, wrong: fn(&Op, &mut Wrong)) -> Mutant {
-    Mutant { name, kind: None, wrong }
+    Mutant { name, of: Of::Operations, wrong }
 }
 
 static MUTANTS: &[Mutant] = &[
     turn(Look, "Look: an empty entry goes to Read", |_, x| x.instead_of(Take, Read)),
     turn(Look, "Look: a used entry goes to Take", |_, x| x.instead_of(Read, Take)),
+    // "Look still goes to Read where it found the entry used"; so do the other turns that only look
+    turn(Look, "Look: a used entry is read in the same turn", |op, x| x.and_at_once(Read, op)),
     turn(Take, "Take: leaves its spare and takes a number", |_, x| x.take_node()),
     turn(Take, "Take: the node's next is the root", |_, x| x.next_in_hand(0)),
-    turn(Put, "Put: a failed node is not kept", |_, x| x.when(Read, HELD_NODE, 0)),
-    turn(Put, "Put: a placed node stays spare", |_, x| x.when(Idle, HELD_NODE, x.was(HELD_NODE))),
-    // document 01's shortcut
-    turn(Put, "Put: a failed node is given to all workers", |_, x| {
-        if x.went_to(Read) {
-            x.set(HELD_NODE, 0);
-            x.model.settings.nodes_taken -= 1;
-        }
-    }),
+    turn(Put, "Put: a placed node stays spare", |_, x| x.set(HELD_NODE, x.was(HELD_NODE))),
     turn(Read, "Read: a node's count is 2", |_, x| x.when(Tail, COUNT, 2)),
     turn(Read, "Read: K's own node is not found", |_, x| {
         if x.went_to(Idle) {
@@ -147,16 +301,15 @@ static MUTANTS: &[Mutant] = &[
     turn(Read, "Read: a level met is not gone to", |_, x| x.when(Look, LEVEL, x.was(LEVEL))),
     turn(Tail, "Tail: appends at the limit", |_, x| x.instead_of(Level, TakeTail)),
     turn(Tail, "Tail: closes below the limit", |_, x| x.instead_of(TakeTail, Level)),
+    turn(Tail, "Tail: another next is followed in the same turn", |op, x| x.and_at_once(Follow, op)),
     turn(TakeTail, "TakeTail: goes to Put", |_, x| x.to(Put)),
     turn(TakeTail, "TakeTail: leaves its spare and takes a number", |_, x| x.take_node()),
     turn(TakeTail, "TakeTail: the node's next is R", |_, x| x.next_in_hand(2 * x.was(NODE) + 1)),
-    turn(Append, "Append: failed goes to Tail", |_, x| x.instead_of(Follow, Tail)),
-    turn(Append, "Append: a failed node is not kept", |_, x| x.when(Follow, HELD_NODE, 0)),
+    turn(Append, "Append: an appended node stays spare", |_, x| x.set(HELD_NODE, x.was(HELD_NODE))),
     turn(Level, "Level: H's own depth", |_, x| x.new_level(1, x.view().get(x.view().depth_of(x.was(LEVEL))))),
     turn(Level, "Level: previous is the root", |_, x| x.new_level(0, 0)),
     turn(Level, "Level: an entry refers to the root", |_, x| x.new_level(9, 0)),
     turn(Level, "Level: leaves its spare and takes a number", |_, x| x.take_level()),
-    turn(Close, "Close: a failed level is not kept", |_, x| x.when(Follow, HELD_LEVEL, 0)),
     turn(Close, "Close: done, moves nothing", |_, x| {
         if x.went_to(ChainHead) {
             x.to(Look);
@@ -197,7 +350,7 @@ static MUTANTS: &[Mutant] = &[
     turn(SetNext, "SetNext: N's next is the home", |_, x| x.put(x.view().cell(), 2 * x.was(home(x.view().inner())))),
     turn(SetNext, "SetNext: goes to SetPut", |_, x| x.to(SetPut)),
     turn(SetLook, "SetLook: a used entry goes to SetPut", |_, x| x.instead_of(SetRead, SetPut)),
-    turn(SetPut, "SetPut: failed goes to SetLook", |_, x| x.instead_of(SetRead, SetLook)),
+    turn(SetLook, "SetLook: a used entry is read in the same turn", |op, x| x.and_at_once(SetRead, op)),
     turn(SetPut, "SetPut: the next node goes into the level reached", |_, x| x.when(SetNext, LEVEL, x.was(LEVEL))),
     // document 01's shortcut
     turn(SetPut, "SetPut: the entry in H is written before the last node is set", |_, x| {
@@ -211,14 +364,13 @@ static MUTANTS: &[Mutant] = &[
     turn(SetRead, "SetRead: a level met is not gone to", |_, x| x.when(SetNext, LEVEL, x.was(LEVEL))),
     turn(SetTail, "SetTail: appends at the limit", |_, x| x.instead_of(SetLevel, SetAppend)),
     turn(SetTail, "SetTail: closes below the limit", |_, x| x.instead_of(SetAppend, SetLevel)),
-    turn(SetAppend, "SetAppend: failed goes to SetTail", |_, x| x.instead_of(SetFollow, SetTail)),
+    turn(SetTail, "SetTail: another next is followed in the same turn", |op, x| x.and_at_once(SetFollow, op)),
     turn(SetAppend, "SetAppend: N is not forgotten", |_, x| {
         let j = x.view().inner();
         x.set(remembered(j), x.was(remembered(j)));
     }),
     turn(SetLevel, "SetLevel: T's own depth", |_, x| x.new_level(1, x.view().get(x.view().depth_of(x.was(LEVEL))))),
     turn(SetLevel, "SetLevel: leaves its spare and takes a number", |_, x| x.take_level()),
-    turn(SetClose, "SetClose: a failed level is not kept", |_, x| x.when(SetFollow, HELD_LEVEL, 0)),
     turn(SetClose, "SetClose: the inner Move's home is the outer one's", |_, x| {
         let j = x.view().moves();
         x.when(ChainHead, home(j), x.was(home(j - 1)));
@@ -238,6 +390,120 @@ static MUTANTS: &[Mutant] = &[
         x.put(right, x.view().get(right));
         x.put(wrong, 2 * g);
     }),
+    // failed exchanges
+    failed(EXCHANGES, "failed, reads the word again a turn later", |_, x| x.only_goes_to(x.reading())),
+    failed(&[SetPut], "failed, looks again", |_, x| x.only_goes_to(SetLook)),
+    failed(AT_R, "failed, reads R's next again from the beginning", |_, x| x.only_goes_to(if x.in_a_move() { SetTail } else { Tail })),
+    failed(AT_R, "failed, acts on the entry, not on the word met", |_, x| x.goes_on(x.its_entry(), x.count_raised())),
+    failed(EXCHANGES, "failed, acts on the word it compared with, not on the word met", |_, x| x.goes_on(2 * x.was(LEVEL), 0)),
+    failed(SEARCHING, "failed, does not find K's node", |_, x| {
+        if x.went_to(Idle) {
+            x.goes_on(x.met(), x.count_raised());
+        }
+    }),
+    failed(&[Put, SetPut], "failed, acts as Follow: the count is raised", |_, x| {
+        if is_node(x.met()) && !x.went_to(Idle) {
+            x.set(COUNT, x.one_more());
+        }
+    }),
+    failed(AT_R, "failed, acts as Read: the count is not raised", |_, x| {
+        if is_node(x.met()) && !x.went_to(Idle) {
+            x.set(COUNT, x.was(COUNT));
+        }
+    }),
+    failed(AT_R, "failed, acts as Read: goes on at the level met", |_, x| {
+        if !is_node(x.met()) {
+            x.set(LEVEL, x.met() / 2);
+        }
+    }),
+    failed(&[Put, SetPut], "failed, a level met is not gone to", |_, x| x.set(LEVEL, x.was(LEVEL))),
+    failed(&[Put, Append], "a failed node is not kept", |_, x| x.set(HELD_NODE, 0)),
+    failed(&[Close, SetClose], "a failed level is not kept", |_, x| x.set(HELD_LEVEL, 0)),
+    // document 01's shortcut
+    failed(&[Put, Append], "a failed node is given to all workers", |_, x| {
+        x.set(HELD_NODE, 0);
+        x.model.settings.nodes_taken -= 1;
+    }),
+    failed(MOVING, "failed, N counts as set", |_, x| {
+        let count = remembered(x.view().inner());
+        x.set(count, x.was(count) - 1);
+    }),
+    // question 6 of the word met
+    asked(EXCHANGES, "6 by the word met comes a turn later", |_, x| {
+        if x.reply.number == 6 {
+            x.only_goes_to(x.reading());
+        }
+    }),
+    asked(EXCHANGES, "a 6 by the word met leaves another kind", |_, x| {
+        if x.reply.number == 6 {
+            x.to(x.reading());
+        }
+    }),
+    asked(&[Put, Append], "a 6 by the word met loses the node in hand", |_, x| {
+        if x.reply.number == 6 {
+            x.set(HELD_NODE, 0);
+        }
+    }),
+    asked(&[Close, SetClose], "a 6 by the word met loses the level in hand", |_, x| {
+        if x.reply.number == 6 {
+            x.set(HELD_LEVEL, 0);
+        }
+    }),
+    asked(EXCHANGES, "a word met that names nothing taken is acted on", |_, x| {
+        if !x.met_is_taken() {
+            x.goes_on(x.met(), x.count_raised());
+        }
+    }),
+    asked(SEARCHING, "a node met that holds no pixel is another node", |_, x| {
+        if x.met_no_pixel() {
+            x.goes_on(x.met(), x.count_raised());
+        }
+    }),
+    asked(MOVING, "the pixel of a node met in a Move is asked", |_, x| {
+        if x.met_no_pixel() {
+            x.undone(6, NOTHING);
+        }
+    }),
+    asked(AT_R, "going back from the level met reads eight words", |_, x| {
+        if let Some(g) = x.back_refused(8, x.given.levels_taken) {
+            x.goes_on(2 * g, 0);
+        }
+    }),
+    asked(AT_R, "going back from the level met goes over a level not taken", |_, x| {
+        if let Some(g) = x.back_refused(7, (x.before.levels.len() / 10) as u32) {
+            x.goes_on(2 * g, 0);
+        }
+    }),
+    // what Read does, but with Follow's way back: on sound memory the level that an entry holds hangs below H
+    asked(&[Put, SetPut], "the level met is gone back from", |_, x| x.goes_back_from(x.met())),
+    spoiled(&[Read, SetRead], "the level read is gone back from", |_, x| x.goes_back_from(x.view().read())),
+    asked(AT_R, "the count of a node met goes past limit + 1", |_, x| {
+        if x.reply.number == 0 && is_node(x.met()) && x.reply.answer == OPEN {
+            x.set(COUNT, x.was(COUNT) + 1);
+        }
+    }),
+    asked(&[SetClose], "failed with seven Moves open, it is refused", |_, x| {
+        if x.was(MOVES) == 7 {
+            x.undone(6, NOTHING);
+        }
+    }),
+    refused(&[SetClose], "the exchange is done, then the eighth Move is refused", |_, x| x.closes()),
+    refused(&[SetClose], "an eighth Move begins", |_, x| {
+        let (h, g) = (x.was(LEVEL), x.was(HELD_LEVEL) - 1);
+        x.closes();
+        x.to(ChainHead);
+        x.set(HELD_LEVEL, 0);
+        x.set(MOVES, 8);
+        for (k, v) in [h, g].into_iter().chain([0; 9]).enumerate() {
+            x.set(home(7) + k, v);
+        }
+        (x.reply.number, x.reply.answer) = (0, OPEN);
+    }),
+    // an entry or next that holds H names a taken level; going back from it is the one question that could tell
+    turn(Append, "Append: the word is gone back from where the exchange is done", |_, x| x.undone(6, NOTHING)),
+    turn(Close, "Close: the word is gone back from where the exchange is done", |_, x| x.undone(6, NOTHING)),
+    turn(SetAppend, "SetAppend: the word is gone back from where the exchange is done", |_, x| x.undone(6, NOTHING)),
+    turn(SetClose, "SetClose: the word is gone back from where the exchange is done", |_, x| x.undone(6, NOTHING)),
     // document 01's firmwares for the testers
     operation("a whole call in its first turn", |op, x| {
         while matches!(op, Op::Turn(_)) && x.reply.answer == OPEN {
@@ -330,30 +596,48 @@ static MUTANTS: &[Mutant] = &[
 
 // Each wrong version through the same sequences until the first difference; gives the names of those never found.
 pub fn missed(seed: u64) -> Vec<String> {
+    let all: Vec<Chosen> = MUTANTS.iter().flat_map(each).collect();
     for k in &KINDS[1..] {
-        assert!(MUTANTS.iter().any(|m| m.kind == Some(*k)), "no wrong version of {k:?}");
+        assert!(all.iter().any(|m| m.kind == Some(*k)), "no wrong version of {k:?}");
     }
     let mut missed = vec![];
-    for m in MUTANTS {
-        match found_after(m, seed) {
-            Some(turns) => println!("wrong version found after {turns} turns: {}", m.name),
-            None => missed.push(format!("wrong version never found: {}", m.name)),
+    for m in &all {
+        match found_after(*m, seed) {
+            Some(turns) => println!("wrong version found after {turns} turns: {}", m.name()),
+            None => missed.push(format!("wrong version never found: {}", m.name())),
         }
     }
+    println!("{} of {} wrong versions found", all.len() - missed.len(), all.len());
     missed
 }
 
+// a wrong version of several kinds must be found at each of them
+fn each(mutant: &'static Mutant) -> Vec<Chosen> {
+    match mutant.of {
+        Of::Operations => vec![Chosen { mutant, kind: None }],
+        Of::Turns(kind) => vec![Chosen { mutant, kind: Some(kind) }],
+        Of::Failed(kinds) | Of::Asked(kinds) | Of::Spoiled(kinds) | Of::Refused(kinds) => {
+            kinds.iter().map(|&kind| Chosen { mutant, kind: Some(kind) }).collect()
+        }
+    }
+}
+
 // the number of turns compared until the wrong version was found
-fn found_after(m: &'static Mutant, seed: u64) -> Option<u64> {
+fn found_after(m: Chosen, seed: u64) -> Option<u64> {
     let mut total = Total::default();
     total.mutant = Some(m);
-    let difference = some_difference(&mut total, seed).err()?;
+    let spoiled = matches!(m.mutant.of, Of::Asked(_) | Of::Spoiled(_) | Of::Refused(_));
+    let difference = some_difference(&mut total, seed, spoiled).err()?;
     Some(total.turns + difference.turns)
 }
 
-fn some_difference(total: &mut Total, seed: u64) -> Compared<()> {
+fn some_difference(total: &mut Total, seed: u64, spoiled: bool) -> Compared<()> {
+    if spoiled {
+        return six::silent(seed, total);
+    }
     let r = &mut Random::new(seed);
     sequences::written(total)?;
+    exchanges::all(total)?;
     while total.turns < 300_000 {
         sequences::orders(r.next(), total)?;
     }

@@ -1,6 +1,6 @@
 // The table and the model side by side: every operation is done on both, then reply, settings and every word of the three areas are compared.
 use crate::model::{Areas, Model, Reply, Settings, FULL};
-use crate::mutants::Mutant;
+use crate::mutants::Chosen;
 use crate::table::Table;
 use crate::words::{Place, ANSWER, ANSWER_NODE, KIND, MOVES, RECORD};
 
@@ -41,7 +41,7 @@ pub struct Pair {
     pub what: String,
     // how often each operation gave each number
     pub numbers: [[u64; 10]; 5],
-    pub mutant: Option<&'static Mutant>,
+    pub mutant: Option<Chosen>,
     // the areas before the newest operation
     before: Areas,
     steps: u64,
@@ -60,9 +60,8 @@ impl Pair {
         }
     }
 
-    // turns carried out, "full" included
     pub fn turns(&self) -> u64 {
-        self.model.seen.went.iter().flatten().sum()
+        self.model.seen.turns()
     }
 
     pub fn difference(&self, text: String) -> Difference {

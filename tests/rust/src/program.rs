@@ -84,7 +84,8 @@ fn written() -> Vec<Case> {
 }
 
 const RACE: &str = "s,2,4,8 c,0,0,0 c,1,0,0 t,0 t,1 t,0 t,1 t,0 t,1 t,1";
-const RACED: &str = "0,0,0,new,0 1,0,0,found,0";
+// "In the printed race worker 1 ends a turn earlier and line 10 prints `refused,10,8`."
+const RACED: &str = "0,0,0,new,0 1,0,0,found,0 refused,10,8";
 
 // P1 to P12. A call ended after k turns and not before if the turn after them, and none before it, is refused by 8.
 fn bench_cases() -> Vec<Case> {
@@ -119,7 +120,7 @@ fn examples() -> Vec<Case> {
         Case {
             name: "race.txt".to_string(),
             input: example("race.txt"),
-            output: Some(b"worker,row,column,answer,node\n0,0,0,new,0\n1,0,0,found,0\nend,2,1\n".to_vec()),
+            output: Some(b"worker,row,column,answer,node\n0,0,0,new,0\n1,0,0,found,0\nrefused,10,8\nend,2,1\n".to_vec()),
         },
         case("move.txt", example("move.txt"), "0,0,0,new,0 0,64,0,new,1 1,64,0,found,1 0,128,0,new,2 end,3,2"),
         case("refusals.txt", example("refusals.txt"), refused),
@@ -341,8 +342,8 @@ fn lengths() -> Vec<Case> {
     ]
 }
 
-// Sixteen workers report one pixel, a turn each in four rounds: all look, all take a node, all put it, all but the first read. With 8 nodes the
-// last eight workers find none left in the second round.
+// Sixteen workers report one pixel, a turn each in four rounds: all look, all take a node, all put it, where all but the first find the node that they
+// meet; the fourth comes too late. With 8 nodes the last eight workers find none left in the second round.
 fn many_workers() -> Vec<Case> {
     let each = |line: &dyn Fn(u32) -> String| (0..16).map(line).collect::<String>();
     let text = |nodes| format!("s,16,8,{nodes}\n{}{}", each(&|i| format!("c,{i},0,0\n")), each(&|i| format!("t,{i}\n")).repeat(4));
@@ -351,8 +352,8 @@ fn many_workers() -> Vec<Case> {
     let (new, found) = (answers(0..1, "new,0"), answers(1..16, "found,0"));
     let (full, some_found) = (answers(8..16, "full,-"), answers(1..8, "found,0"));
     vec![
-        case("16 workers", text(16), &format!("{new} refused,66,8 {found} end,16,1")),
-        case("16 workers, 8 nodes", text(8), &format!("{full} {new} {} refused,66,8 {some_found} {} end,8,1", refused(58..66), refused(74..82))),
+        case("16 workers", text(16), &format!("{new} {found} {} end,16,1", refused(66..82))),
+        case("16 workers, 8 nodes", text(8), &format!("{full} {new} {some_found} {} end,8,1", refused(58..82))),
     ]
 }
 

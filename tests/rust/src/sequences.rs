@@ -1,9 +1,9 @@
 // Sequences of operations, random ones from a seed of their own: `leafdrum_tests NAME SEED` runs one again.
 use crate::coverage::Total;
-use crate::model::{self, Areas, Kind, Settings};
+use crate::model::{self, Areas, Kind, Settings, KINDS, NONE};
 use crate::pair::{Compared, Op, Pair};
 use crate::random::Random;
-use crate::words::{Place, COUNT, KIND, LEVEL, MOVES, NODE, RECORD};
+use crate::words::{remembered, Place, View, COUNT, KIND, LEVEL, MOVES, NODE, PIXEL, RECORD, TOP};
 
 pub fn settings(workers: u32, limit: u32, nodes: u32) -> Settings {
     Settings { workers, limit, nodes, nodes_taken: 0, levels_taken: 1 }
@@ -164,7 +164,9 @@ pub fn spoiled(seed: u64, total: &mut Total) -> Compared<()> {
         }
         let good = (p.table.areas.clone(), p.table.settings);
         for _ in 0..1 + r.below(3) {
-            spoil(r, &mut p);
+            if r.below(4) > 0 || !spoil_exchange(r, &mut p) {
+                spoil(r, &mut p);
+            }
         }
         for _ in 0..r.below(12) {
             let i = r.below(s.workers as u64) as u32;
@@ -182,6 +184,47 @@ pub fn spoiled(seed: u64, total: &mut Total) -> Compared<()> {
     }
     total.add(&p);
     Ok(())
+}
+
+// The word that worker i is about to exchange, where its record leads to one.
+fn exchanged(v: &View) -> Option<Place> {
+    use Kind::*;
+    let s = v.settings;
+    let entry = |pixel: u32| {
+        let g = v.word(LEVEL);
+        (g < s.levels_taken && v.get(v.depth_of(g)) <= 7).then(|| v.entry_of(g, pixel))
+    };
+    match KINDS.get(v.word(KIND) as usize)? {
+        Put => entry(v.word(PIXEL)),
+        Append | Close | SetAppend | SetClose => (v.word(NODE) < s.nodes_taken).then(|| v.next_of(v.word(NODE))),
+        SetPut => {
+            let remembers = (1..=7).contains(&v.moves()) && (1..=8).contains(&v.word(remembered(v.inner())));
+            let n = remembers.then(|| v.n()).filter(|&n| n < s.nodes_taken)?;
+            entry(v.get(v.pixel_of(n)))
+        }
+        _ => None,
+    }
+}
+
+// An exchange is made to fail: on a reference near the bounds, or on a node or level whose word that question 6 asks for is near them.
+fn spoil_exchange(r: &mut Random, p: &mut Pair) -> bool {
+    let s = p.model.settings;
+    let view = View { areas: &p.model.areas, settings: s, worker: r.below(s.workers as u64) as u32 };
+    let Some(cell) = exchanged(&view) else { return false };
+    let (nt, lt) = (s.nodes_taken, s.levels_taken);
+    let (n, g) = (r.below(nt as u64 + 1) as u32, r.below(lt as u64 + 1) as u32);
+    if r.below(2) == 0 {
+        p.put(cell, 2 * n + 1);
+        if n < nt && r.below(2) == 0 {
+            p.put(Place::Nodes(2 * n as usize), r.pick(&[TOP, TOP + 1, u32::MAX]));
+        }
+    } else {
+        p.put(cell, 2 * g);
+        if g < lt && r.below(2) == 0 {
+            p.put(Place::Levels(10 * g as usize), r.pick(&[0, lt - 1, lt, NONE]));
+        }
+    }
+    true
 }
 
 // One word near what the next turns read set to something near its bounds, or levels taken to any number that question 3 accepts.

@@ -43,18 +43,23 @@ impl View<'_> {
     fn taken_levels(&self) -> u32 {
         self.settings.levels_taken
     }
+    // there are words for this level, taken or not
+    fn has_room(&self, g: u32) -> bool {
+        (g as u64) < model::level_count(&self.settings)
+    }
     fn limit(&self) -> u32 {
         self.settings.limit
     }
     fn level(&self) -> u32 {
         self.word(LEVEL)
     }
-    // with this word read, question 6 has nothing against a turn that goes back or remembers
+    // with this word read or met, question 6 has nothing against a turn that goes back or remembers
     fn accepts(&self, word: u32) -> bool {
         let child = || self.get(self.previous_of(word / 2)) == self.level();
         let room = || self.word(remembered(self.inner())) < self.limit();
         match self.kind() {
             Follow | SetFollow => is_node(word) || child(),
+            Append | Close | SetAppend | SetClose => is_node(word) || word == 2 * self.level() || child(),
             ChainNext => !is_node(word) || room(),
             _ => true,
         }
@@ -78,15 +83,16 @@ impl View<'_> {
             Level | SetLevel => self.get(self.depth_of(newest)) <= 6,
             _ => true,
         };
-        if fits {
-            self.number(LEVEL, self.taken_levels())
-        } else {
-            None
+        let mut x = self.number(LEVEL, self.taken_levels()).filter(|_| fits)?;
+        // an exchange at R from another level's reference fails: it meets a node
+        if matches!(self.kind(), Append | Close | SetAppend | SetClose) {
+            x.first.push((self.cell(), 1));
         }
+        Some(x)
     }
-    // a node in a record whose next is read
+    // a node in a record whose next is read or exchanged
     fn record_node(&self, word: usize) -> Option<Spot> {
-        let reads_next = matches!(self.kind(), Tail | Follow | SetTail | SetFollow | ChainNext);
+        let reads_next = word == NODE || self.kind() == ChainNext;
         if reads_next && [0, self.taken_nodes() - 1].iter().any(|&i| !self.accepts(self.get(self.next_of(i)))) {
             return None;
         }
@@ -106,6 +112,15 @@ impl View<'_> {
         }
         spot(self.cell(), &[2 * g, MAX - 1], &[2 * g - 2])
     }
+    // the same where an exchange fails: the newest level is another one than H; those that go back from it meet H
+    fn level_met_read(&self) -> Option<Spot> {
+        let newest = self.taken_levels() - 1;
+        let mut x = spot(self.cell(), &[2 * newest + 2, MAX - 1], &[2 * newest]).filter(|_| newest != self.level())?;
+        if matches!(self.kind(), Append | Close | SetAppend | SetClose) {
+            x.first.push((self.previous_of(newest), self.level()));
+        }
+        Some(x)
+    }
     fn pixel_word(&self, i: u32) -> Option<Spot> {
         spot(self.pixel_of(i), &[TOP + 1, MAX], &[0, TOP])
     }
@@ -115,6 +130,24 @@ impl View<'_> {
     }
     fn level_met(&self) -> Option<u32> {
         Some(self.read()).filter(|&w| !is_node(w)).map(|w| w / 2)
+    }
+    // a node but this one that a failed exchange meets: the one in its cell, or one written there first
+    fn node_exchanged(&self, but: u32) -> Option<(u32, Vec<(Place, u32)>)> {
+        let n = self.node_met().into_iter().chain(0..self.taken_nodes()).find(|&n| n != but)?;
+        Some((n, vec![(self.cell(), 2 * n + 1)]))
+    }
+    // what is held is asked for also where the exchange fails
+    fn with_a_node_met(&self, held: usize, taken: u32) -> Option<Spot> {
+        let (_, first) = self.node_exchanged(MAX)?;
+        Some(Spot { first, ..spot(self.at(held), &[0, taken + 1, MAX], &[1, taken])? })
+    }
+    // a level but this one that is met; where an exchange meets H it has not failed
+    fn another_level_met(&self, but: u32) -> Option<(u32, Vec<(Place, u32)>)> {
+        if matches!(self.kind(), Follow | SetFollow) {
+            return Some((self.level_met().filter(|&g| g != but)?, vec![]));
+        }
+        let g = self.level_met().into_iter().chain(0..self.taken_levels()).find(|&g| g != but && g != self.level())?;
+        Some((g, vec![(self.cell(), 2 * g)]))
     }
     // the level in which an entry is picked
     fn picked(&self) -> u32 {
@@ -142,7 +175,7 @@ impl View<'_> {
     }
     fn seven_moves(&self) -> Option<Spot> {
         // SetClose: an exchange that fails needs no further Move
-        let mut x = if self.kind() == SetClose { free(self.cell(), &[NONE])? } else { free(self.at(MOVES), &[7])? };
+        let mut x = if self.kind() == SetClose { free(self.cell(), &[1])? } else { free(self.at(MOVES), &[7])? };
         x.first = self.stacked(7);
         Some(x)
     }
@@ -198,7 +231,7 @@ fn clauses() -> Vec<Clause> {
     let reading = [Look, Read, Tail, Follow, ChainHead, ChainNext, SetLook, SetRead, SetTail, SetFollow];
     let exchanging = [Put, Append, Close, SetPut, SetAppend, SetClose];
     let picking = [Look, Put, Read, SetLook, SetPut, SetRead, ChainHead, MoveEnd];
-    let going_back = [Follow, SetFollow];
+    let going_back = [Append, Close, Follow, SetAppend, SetClose, SetFollow];
     let making_levels = [Level, SetLevel];
     let gathering = [ChainHead, MoveEnd];
     vec![
@@ -233,18 +266,29 @@ fn clauses() -> Vec<Clause> {
         // what is read from the areas
         clause("node read not taken", &reading, |v| v.node_read()),
         clause("level read not taken", &reading, |v| v.level_read()),
+        clause("node met not taken", &exchanging, |v| v.node_read()),
+        clause("level met not taken", &exchanging, |v| v.level_met_read()),
+        clause("node in hand, with a node met", &[Put, Append], |v| v.with_a_node_met(HELD_NODE, v.taken_nodes())),
+        clause("level in hand, with a node met", &[Close, SetClose], |v| v.with_a_node_met(HELD_LEVEL, v.taken_levels())),
         clause("pixel compared", &[Read, Follow], |v| v.pixel_word(v.node_met()?)),
+        clause("pixel of the node met", &[Put, Append, Close], |v| {
+            let (n, first) = v.node_exchanged(MAX)?;
+            Some(Spot { first, ..v.pixel_word(n)? })
+        }),
         clause("N's pixel", &[SetLook, SetPut, SetRead], |v| v.pixel_word(v.n())),
         clause("outer N's pixel", &gathering, |v| v.pixel_word(v.word(v.outer_last()?))),
         clause("depth", &picking, |v| spot(v.depth_of(v.picked()), &[8, MAX], &[0, 7])),
         clause("new level's depth", &making_levels, |v| spot(v.depth_of(v.level()), &[7, 8, MAX], &[0, 6])),
-        clause("going back meets none", &going_back, |v| spot(v.previous_of(v.level_met()?), &[NONE], &[v.level()])),
+        clause("going back meets none", &going_back, |v| {
+            let (met, first) = v.another_level_met(MAX)?;
+            Some(Spot { first, ..spot(v.previous_of(met), &[NONE], &[v.level()])? })
+        }),
         clause("going back meets a level not taken", &going_back, |v| {
-            let (met, newest) = (v.level_met()?, v.taken_levels() - 1);
-            if met == newest || v.get(v.previous_of(newest)) != v.level() {
-                return None;
-            }
-            spot(v.previous_of(met), &[newest + 1, HALF, MAX - 1], &[newest])
+            // the newest level hangs below H, and so would the next one
+            let newest = v.taken_levels() - 1;
+            let (met, mut first) = v.another_level_met(newest).filter(|_| newest != v.level())?;
+            first.extend([newest, newest + 1].into_iter().filter(|&g| v.has_room(g)).map(|g| (v.previous_of(g), v.level())));
+            Some(Spot { first, ..spot(v.previous_of(met), &[newest + 1, HALF, MAX - 1], &[newest])? })
         }),
         clause("going back reads eight words", &going_back, |v| v.long_way_back()),
         clause("a chain above the limit", &[ChainNext], |v| {
@@ -255,7 +299,14 @@ fn clauses() -> Vec<Clause> {
         }),
         clause("an eighth Move, by the Moves", &[SetClose], |v| v.eighth_move(v.at(MOVES), &[7], &[6])),
         clause("an eighth Move, by R's next", &[SetClose], |v| {
-            v.eighth_move(v.cell(), &[2 * v.level()], &[2 * v.level() + 1, 2 * v.level() + 2, MAX])
+            // an exchange that fails needs none, and asks for the word it met
+            let (n, g) = (v.taken_nodes(), v.taken_levels());
+            let mut x = v.eighth_move(v.cell(), &[2 * v.level(), 2 * n + 1, 2 * g], &[1, 2 * n - 1])?;
+            if g - 1 != v.level() {
+                x.first.push((v.previous_of(g - 1), v.level()));
+                x.inside.push(2 * g - 2);
+            }
+            Some(x)
         }),
         clause("no level left", &making_levels, |v| v.no_level_left()),
         // what is not read is not asked
@@ -265,7 +316,31 @@ fn clauses() -> Vec<Clause> {
             x.first.push((Place::LevelsTaken, model::level_count(&v.settings) as u32));
             Some(x)
         }),
-        clause("free: the cell of an exchange", &exchanging, |v| free(v.cell(), &[2 * v.taken_nodes() + 1, 2 * v.taken_levels(), MAX, MAX - 1])),
+        clause("free: count, with a node met", &[Append, Close, SetAppend, SetClose], |v| {
+            let (_, first) = v.node_exchanged(MAX)?;
+            Some(Spot { first, ..free(v.at(COUNT), &[1, v.limit(), v.limit() + 1])? })
+        }),
+        // where the exchange is done its word is not gone back from
+        clause("free: the level's previous, with the exchange done", &exchanging, |v| {
+            let mut x = free(v.previous_of(v.level()), &[NONE, v.taken_levels(), MAX - 1])?;
+            x.first.push((v.cell(), 2 * v.level()));
+            Some(x).filter(|_| v.moves() < 7)
+        }),
+        // these go on at the level met, wherever it hangs
+        clause("free: previous of the level met", &[Put, Read, SetPut, SetRead], |v| {
+            let (met, mut first) = v.another_level_met(MAX)?;
+            let mut x = free(v.previous_of(met), &[NONE, v.taken_levels(), MAX - 1])?;
+            // going back over another level would meet H
+            if let Some(g) = (0..v.taken_levels()).find(|&g| g != met && g != v.level()) {
+                first.push((v.previous_of(g), v.level()));
+                x.inside.push(g);
+            }
+            Some(Spot { first, ..x })
+        }),
+        clause("free: pixel of the node met in a Move", &[SetPut, SetAppend, SetClose], |v| {
+            let (n, first) = v.node_exchanged(v.n())?;
+            Some(Spot { first, ..free(v.pixel_of(n), &[TOP + 1, MAX])? })
+        }),
         clause("free: the cell that is written", &[SetNext, MoveEnd], |v| {
             free(v.cell(), &[2 * v.taken_nodes() + 1, 2 * v.taken_levels(), MAX, MAX - 1])
         }),
@@ -300,14 +375,7 @@ const IN_ONE: u64 = 3;
 // What each kind was tried with; clauses never reached are given back.
 pub fn aimed(seed: u64, total: &mut Total) -> Compared<Vec<String>> {
     let clauses = clauses();
-    let mut tried = vec![[0u64; 23]; clauses.len()];
-    let r = &mut Random::new(seed);
-    for n in 0..300 {
-        if clauses.iter().zip(&tried).all(|(c, t)| c.kinds.iter().all(|&k| t[k as usize] >= OFTEN)) {
-            break;
-        }
-        one_table(r, total, &clauses, &mut tried, &format!("six {seed}, table {n}"))?;
-    }
+    let tried = tables(seed, total, &clauses)?;
     let mut missing = vec![];
     for (c, t) in clauses.iter().zip(&tried) {
         let kinds: Vec<String> = c.kinds.iter().map(|&k| format!("{k:?} {}", t[k as usize])).collect();
@@ -315,6 +383,24 @@ pub fn aimed(seed: u64, total: &mut Total) -> Compared<Vec<String>> {
         missing.extend(c.kinds.iter().filter(|&&k| t[k as usize] == 0).map(|k| format!("6 of {k:?}: {}", c.name)));
     }
     Ok(missing)
+}
+
+// The same without a word, for the wrong versions.
+pub fn silent(seed: u64, total: &mut Total) -> Compared<()> {
+    tables(seed, total, &clauses()).map(|_| ())
+}
+
+// how often each clause was tried at each kind
+fn tables(seed: u64, total: &mut Total, clauses: &[Clause]) -> Compared<Vec<[u64; 23]>> {
+    let mut tried = vec![[0u64; 23]; clauses.len()];
+    let r = &mut Random::new(seed);
+    for n in 0..300 {
+        if clauses.iter().zip(&tried).all(|(c, t)| c.kinds.iter().all(|&k| t[k as usize] >= OFTEN)) {
+            break;
+        }
+        one_table(r, total, clauses, &mut tried, &format!("six {seed}, table {n}"))?;
+    }
+    Ok(tried)
 }
 
 fn one_table(r: &mut Random, total: &mut Total, clauses: &[Clause], tried: &mut [[u64; 23]], what: &str) -> Compared<()> {

@@ -50,13 +50,11 @@ impl Lines {
         if !output.lines().last().unwrap().starts_with("end,") {
             self.count("no end");
         }
-        let went = &ran.printed.seen.went;
-        self.turns += went.iter().flatten().sum::<u64>();
-        self.moves += went[Close as usize][ChainHead as usize];
-        self.inner_moves += went[SetClose as usize][ChainHead as usize];
-        for (exchange, failed) in [(Put, Read), (Append, Follow), (Close, Follow), (SetPut, SetRead), (SetAppend, SetFollow), (SetClose, SetFollow)] {
-            self.failed_exchanges += went[exchange as usize][failed as usize];
-        }
+        let seen = &ran.printed.seen;
+        self.turns += seen.turns();
+        self.moves += seen.went[Close as usize][ChainHead as usize];
+        self.inner_moves += seen.went[SetClose as usize][ChainHead as usize];
+        self.failed_exchanges += seen.failed.iter().flatten().sum::<u64>();
     }
 
     pub fn report(&self, name: &str) -> Vec<String> {

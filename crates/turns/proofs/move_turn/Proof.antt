@@ -1,6 +1,6 @@
 -- `turns::move_turn` meets its contract.
 -- Relies on the ways in which a turn of a moving worker ends.
-use Rattle.turns.proofs.Moves.{loaded-count, loaded-least, loaded-most, move-refused, move-done}
+use Rattle.turns.proofs.Moves.{loaded-count, loaded-least, move-refused, move-done}
 use borrow.Author.Needs.{needs}
 use Rattle.turns.proofs.move_turn.Statement.{statement}
 use Rattle.turns.proofs.move_turn.Tie as tie
@@ -9,7 +9,7 @@ load-requires : tie.Need-load-requires
 load-requires c κs = search needs
 
 turn-requires : tie.Need-turn-requires
-turn-requires c κs = search (needs, loaded-count, loaded-least, loaded-most)
+turn-requires c κs = search (needs, loaded-count, loaded-least)
 
 refusal-requires : tie.Need-refusal-requires
 refusal-requires c κs = search needs

@@ -1,18 +1,24 @@
 -- `mover::Mover::set_append` meets its contract.
 -- Relies on Asked, on Bounds, on Turns.
-use Rattle.mover.proofs.Asked.{appends-asked, appends-last}
-use Rattle.mover.proofs.Bounds.{counts-place, counts-refused, most-place, most-refused}
-use Rattle.mover.proofs.Turns.{place-is, six-no, six-yes}
-use Rattle.rules.specs.Moving.{setAppend}
+use Rattle.rules.specs.Asked.{setAppends}
+use Rattle.mover.proofs.Asked.{appends-asked, appends-level, appends-last}
+use Rattle.mover.proofs.Bounds.{counts-refused, most-refused}
+use Rattle.mover.proofs.Turns.{append-gives, six-before}
 use borrow.Author.Needs.{needs}
 use Rattle.mover.proofs.Mover.set_append.Statement.{statement}
 use Rattle.mover.proofs.Mover.set_append.Tie as tie
 
-set-appends-requires : tie.Need-set-appends-requires
-set-appends-requires c κs = search needs
+stands-setting-requires : tie.Need-stands-setting-requires
+stands-setting-requires c κs = search needs
 
-place-requires : tie.Need-place-requires
-place-requires c κs = search (needs, appends-last)
+node-ref-requires : tie.Need-node-ref-requires
+node-ref-requires c κs = search (needs, appends-last)
+
+exchange-from-requires : tie.Need-exchange-from-requires
+exchange-from-requires c κs = search (needs, appends-level)
+
+append-met-requires : tie.Need-append-met-requires
+append-met-requires c κs = search needs
 
 refused-requires : tie.Need-refused-requires
 refused-requires c κs = search needs
@@ -24,18 +30,20 @@ same-length-2 : tie.Need-same-length-2
 same-length-2 c = search needs
 
 returns : tie.Need-returns
-unfolding setAppend
-returns c = record { gives = λ a os o. search (needs, six-yes, appends-asked, place-is); counts = search (needs, counts-place); most = λ h. search (needs, most-place) }
+returns c = search (needs, append-gives 3)
 
 returns-2 : tie.Need-returns-2
-returns-2 c = record { gives = λ a os o. search (needs, six-no, appends-asked); counts = search (needs, counts-refused); most = λ h. search (needs, most-refused) }
+unfolding setAppends
+returns-2 c = record { gives = λ a os o. search (needs, six-before, appends-asked); counts = search (needs, counts-refused); most = λ h. search (needs, most-refused) }
 
 pub set-append-spec : {M : Type 1} → statement M
 set-append-spec =
     tie.close
     (tie.spec
-    set-appends-requires
-    place-requires
+    stands-setting-requires
+    node-ref-requires
+    exchange-from-requires
+    append-met-requires
     refused-requires
     same-length
     same-length-2

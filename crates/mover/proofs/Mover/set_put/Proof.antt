@@ -1,21 +1,27 @@
 -- `mover::Mover::set_put` meets its contract.
 -- Relies on Asked, on Bounds, on Turns.
-use Rattle.mover.proofs.Asked.{puts-asked, puts-last}
-use Rattle.mover.proofs.Bounds.{counts-place, counts-refused, most-place, most-refused}
-use Rattle.mover.proofs.Turns.{place-is, set-cell, six-no, six-yes}
-use Rattle.rules.specs.Moving.{setPut}
+use Rattle.rules.specs.Asked.{setPuts}
+use Rattle.mover.proofs.Asked.{puts-asked, puts-level, puts-last}
+use Rattle.mover.proofs.Bounds.{counts-refused, most-refused}
+use Rattle.mover.proofs.Turns.{put-gives, six-before}
 use borrow.Author.Needs.{needs}
 use Rattle.mover.proofs.Mover.set_put.Statement.{statement}
 use Rattle.mover.proofs.Mover.set_put.Tie as tie
 
-set-puts-requires : tie.Need-set-puts-requires
-set-puts-requires c κs = search needs
+set-entry-requires : tie.Need-set-entry-requires
+set-entry-requires c κs = search needs
 
 set-cell-of-requires : tie.Need-set-cell-of-requires
 set-cell-of-requires c κs = search needs
 
-place-requires : tie.Need-place-requires
-place-requires c κs = search (needs, puts-last)
+node-ref-requires : tie.Need-node-ref-requires
+node-ref-requires c κs = search (needs, puts-last)
+
+exchange-from-requires : tie.Need-exchange-from-requires
+exchange-from-requires c κs = search (needs, puts-level)
+
+put-met-requires : tie.Need-put-met-requires
+put-met-requires c κs = search needs
 
 refused-requires : tie.Need-refused-requires
 refused-requires c κs = search needs
@@ -27,8 +33,7 @@ same-length-2 : tie.Need-same-length-2
 same-length-2 c = search needs
 
 returns : tie.Need-returns
-unfolding setPut
-returns c = record { gives = λ a os o. search (needs, six-yes, puts-asked, place-is, set-cell); counts = search (needs, counts-place); most = λ h. search (needs, most-place) }
+returns c = search (needs, put-gives 3)
 
 same-length-3 : tie.Need-same-length-3
 same-length-3 c = search needs
@@ -37,15 +42,18 @@ same-length-4 : tie.Need-same-length-4
 same-length-4 c = search needs
 
 returns-2 : tie.Need-returns-2
-returns-2 c = record { gives = λ a os o. search (needs, six-no, puts-asked); counts = search (needs, counts-refused); most = λ h. search (needs, most-refused) }
+unfolding setPuts
+returns-2 c = record { gives = λ a os o. search (needs, six-before, puts-asked); counts = search (needs, counts-refused); most = λ h. search (needs, most-refused) }
 
 pub set-put-spec : {M : Type 1} → statement M
 set-put-spec =
     tie.close
     (tie.spec
-    set-puts-requires
+    set-entry-requires
     set-cell-of-requires
-    place-requires
+    node-ref-requires
+    exchange-from-requires
+    put-met-requires
     refused-requires
     same-length
     same-length-2

@@ -1,9 +1,6 @@
 -- `mover::Mover::set_read` meets its contract.
--- Relies on Asked, on Bounds, on Turns.
-use Rattle.mover.proofs.Asked.{looks-asked}
-use Rattle.mover.proofs.Bounds.{counts-refused, counts-stay, most-refused, most-stay}
-use Rattle.mover.proofs.Turns.{read-is, set-word, six-no, six-yes}
-use Rattle.rules.specs.Moving.{setRead}
+-- Relies on the laws named below.
+use Rattle.mover.proofs.Turns.{read-gives}
 use borrow.Author.Needs.{needs}
 use Rattle.mover.proofs.Mover.set_read.Statement.{statement}
 use Rattle.mover.proofs.Mover.set_read.Tie as tie
@@ -11,41 +8,19 @@ use Rattle.mover.proofs.Mover.set_read.Tie as tie
 set-cell-of-requires : tie.Need-set-cell-of-requires
 set-cell-of-requires c κs = search needs
 
-set-looks-requires : tie.Need-set-looks-requires
-set-looks-requires c κs = search needs
-
 cell-at-requires : tie.Need-cell-at-requires
 cell-at-requires c κs = search needs
 
-named-requires : tie.Need-named-requires
-named-requires c κs = search needs
+set-entry-requires : tie.Need-set-entry-requires
+set-entry-requires c κs = search needs
 
-met-head-requires : tie.Need-met-head-requires
-met-head-requires c κs = search needs
-
-stay-requires : tie.Need-stay-requires
-stay-requires c κs = search needs
-
-refused-requires : tie.Need-refused-requires
-refused-requires c κs = search needs
+read-met-requires : tie.Need-read-met-requires
+read-met-requires c κs = search needs
 
 returns : tie.Need-returns
-unfolding setRead
-returns c = record { gives = λ a os o. search (needs, six-yes, looks-asked, read-is, set-word); counts = search (needs, counts-stay); most = λ h. search (needs, most-stay) }
-
-returns-2 : tie.Need-returns-2
-returns-2 c = record { gives = λ a os o. search (needs, six-no, looks-asked); counts = search (needs, counts-refused); most = λ h. search (needs, most-refused) }
+returns c = search (needs, read-gives 3)
 
 pub set-read-spec : {M : Type 1} → statement M
 set-read-spec =
     tie.close
-    (tie.spec
-    set-cell-of-requires
-    set-looks-requires
-    cell-at-requires
-    named-requires
-    met-head-requires
-    stay-requires
-    refused-requires
-    returns
-    returns-2)
+    (tie.spec set-cell-of-requires cell-at-requires set-entry-requires read-met-requires returns)

@@ -1,20 +1,27 @@
 -- `worker::Worker::append` meets its contract.
--- Relies on the laws of steps for bounds, on Turns for the ways through it.
+-- Relies on the laws named below.
 use Rattle.words.proofs.Choice.{via}
-use Rattle.steps.proofs.Asked.{in-hand-one, in-hand-most}
 use Rattle.rules.specs.Asked.{appends}
-use Rattle.worker.proofs.Turns.{six-no, six-yes}
-use Rattle.rules.specs.Searching.{append}
+use Rattle.steps.proofs.Asked.{stands-most, node-one, node-less}
+use Rattle.worker.proofs.Cells.{append-tried, six-before}
 use borrow.Author.Needs.{needs}
 use Rattle.worker.proofs.Worker.append.Statement.{statement}
 use Rattle.worker.proofs.Worker.append.Tie as tie
 
-appends-requires : tie.Need-appends-requires
-appends-requires c κs = search needs
+stands-with-requires : tie.Need-stands-with-requires
+stands-with-requires c κs = search needs
 
-place-node-requires : tie.Need-place-node-requires
-unfolding appends
-place-node-requires c κs = search (needs, in-hand-one, in-hand-most)
+sub-node-ref : tie.Need-sub-node-ref
+sub-node-ref c = search (needs, node-one)
+
+node-ref-requires : tie.Need-node-ref-requires
+node-ref-requires c κs = search (needs, node-less)
+
+exchange-from-requires : tie.Need-exchange-from-requires
+exchange-from-requires c κs = search (needs, stands-most)
+
+append-met-requires : tie.Need-append-met-requires
+append-met-requires c κs = search (needs, node-one)
 
 refused-six-requires : tie.Need-refused-six-requires
 refused-six-requires c κs = search needs
@@ -26,18 +33,21 @@ same-length-2 : tie.Need-same-length-2
 same-length-2 c = search needs
 
 returns : tie.Need-returns
-unfolding append
-returns c = search (needs, via, six-yes)
+returns c = search (needs, append-tried)
 
 returns-2 : tie.Need-returns-2
-returns-2 c = search (needs, via, six-no)
+unfolding appends
+returns-2 c = search (needs, via, six-before)
 
 pub append-spec : {M : Type 1} → statement M
 append-spec =
     tie.close
     (tie.spec
-    appends-requires
-    place-node-requires
+    stands-with-requires
+    sub-node-ref
+    node-ref-requires
+    exchange-from-requires
+    append-met-requires
     refused-six-requires
     same-length
     same-length-2

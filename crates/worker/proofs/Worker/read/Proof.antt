@@ -1,14 +1,9 @@
 -- `worker::Worker::read` meets its contract.
--- Relies on Turns.
-use Rattle.words.proofs.Choice.{via}
-use Rattle.worker.proofs.Turns.{six-no, six-yes, read-at, cell-word}
-use Rattle.rules.specs.Searching.{read}
+-- Relies on the laws named below.
+use Rattle.worker.proofs.Cells.{read-tried}
 use borrow.Author.Needs.{needs}
 use Rattle.worker.proofs.Worker.read.Statement.{statement}
 use Rattle.worker.proofs.Worker.read.Tie as tie
-
-reads-requires : tie.Need-reads-requires
-reads-requires c κs = search (needs, cell-word)
 
 entry-of-requires : tie.Need-entry-of-requires
 entry-of-requires c κs = search needs
@@ -16,27 +11,16 @@ entry-of-requires c κs = search needs
 cell-at-requires : tie.Need-cell-at-requires
 cell-at-requires c κs = search needs
 
-read-word-requires : tie.Need-read-word-requires
-read-word-requires c κs = search needs
+picks-in-requires : tie.Need-picks-in-requires
+picks-in-requires c κs = search needs
 
-refused-six-requires : tie.Need-refused-six-requires
-refused-six-requires c κs = search needs
+read-met-requires : tie.Need-read-met-requires
+read-met-requires c κs = search needs
 
 returns : tie.Need-returns
-unfolding read
-returns c = search (needs, via, six-yes, read-at, cell-word)
-
-returns-2 : tie.Need-returns-2
-returns-2 c = search (needs, via, six-no)
+returns c = search (needs, read-tried)
 
 pub read-spec : {M : Type 1} → statement M
 read-spec =
     tie.close
-    (tie.spec
-    entry-of-requires
-    cell-at-requires
-    reads-requires
-    read-word-requires
-    refused-six-requires
-    returns
-    returns-2)
+    (tie.spec entry-of-requires cell-at-requires picks-in-requires read-met-requires returns)
