@@ -9,6 +9,8 @@
 
 enum { MAXPIX = 16777215 };
 enum kind { IDLE, LOOK, TAKE, PUT, READ, TAIL, TAKETAIL, APPEND, LEVEL, CLOSE, FOLLOW, CHAINHEAD, CHAINNEXT, SETNEXT, SETLOOK, SETPUT, SETREAD, SETTAIL, SETAPPEND, SETLEVEL, SETCLOSE, SETFOLLOW, MOVEEND };
+/* the six kinds that exchange a word, one bit each */
+enum { EXCHANGES = 1 << PUT | 1 << APPEND | 1 << CLOSE | 1 << SETPUT | 1 << SETAPPEND | 1 << SETCLOSE };
 enum { W_KIND, W_PIXEL, W_LEVEL, W_NODE, W_COUNT, W_HNODE, W_HLEVEL, W_ANSWER, W_ANODE, W_MOVES };
 
 typedef leafdrum_settings S;
@@ -35,7 +37,7 @@ static uint32_t counts(const S *s, size_t nl, size_t ll, size_t wl) {
 }
 
 static R reply(uint32_t number, uint32_t answer, uint32_t node, S s) {
-    R r = {number, answer, node, 0, s};
+    R r = {number, answer, node, 0, 0, 0, s};
     return r;
 }
 
@@ -125,11 +127,12 @@ static inline void set_last(uint32_t *w, const uint32_t *m) {
     else w[W_KIND] = SETNEXT, w[W_LEVEL] = m[1];
 }
 
-/* one turn of an open worker whose record fits: 0, 6 or 9 */
-static uint32_t act(S *s, uint32_t *w, uint32_t *nodes, uint32_t *levels, uint32_t *answer, uint32_t *node) {
+/* one turn of an open worker whose record fits: 0, 6 or 9; tells whether it had an exchange that failed */
+static uint32_t act(S *s, uint32_t *w, uint32_t *nodes, uint32_t *levels, uint32_t *answer, uint32_t *node, uint32_t *failed) {
     uint32_t k = w[W_KIND], h = w[W_LEVEL], *x, word, n, g, *m;
     *answer = 4;
     *node = 0;
+    *failed = 0;
     switch (k) {
     case LOOK:
         NEED(h < s->levels_taken && levels[10 * h + 1] <= 7);
@@ -174,6 +177,7 @@ static uint32_t act(S *s, uint32_t *w, uint32_t *nodes, uint32_t *levels, uint32
         NEED(h < s->levels_taken && w[W_NODE] < s->nodes_taken);
         word = nodes[2 * w[W_NODE] + 1];
     met: /* the word read, or met by a failed exchange: what is in hand stays held, and is spare from here on */
+        *failed = EXCHANGES >> k & 1;
         NEED(taken(s, word));
         if (word & 1) {
             n = word >> 1;
@@ -298,6 +302,7 @@ static uint32_t act(S *s, uint32_t *w, uint32_t *nodes, uint32_t *levels, uint32
         NEED(h < s->levels_taken && w[W_NODE] < s->nodes_taken);
         word = nodes[2 * w[W_NODE] + 1];
     set_met:
+        *failed = EXCHANGES >> k & 1;
         NEED(taken(s, word));
         if (word & 1) {
             w[W_KIND] = SETTAIL, w[W_NODE] = word >> 1;
@@ -313,32 +318,30 @@ static uint32_t act(S *s, uint32_t *w, uint32_t *nodes, uint32_t *levels, uint32
 }
 
 R HAND(turn)(S s, uint32_t i, LEAFDRUM_AREAS) {
-    uint32_t q = counts(&s, node_words, level_words, worker_words), answer, node;
+    uint32_t q = counts(&s, node_words, level_words, worker_words), answer, node, failed;
     if (q) return reply(q, 0, 0, s);
     if (i >= s.workers) return reply(4, 0, 0, s);
     uint32_t *w = workers + 128 * i;
     if (!fits(&s, w)) return reply(6, 0, 0, s);
     if (w[W_KIND] == IDLE) return reply(8, 0, 0, s);
-    q = act(&s, w, nodes, levels, &answer, &node);
+    q = act(&s, w, nodes, levels, &answer, &node, &failed);
     return q == 6 ? reply(6, 0, 0, s) : reply(q, answer, node, s);
 }
 
 R HAND(turns)(S s, const uint8_t *list, size_t count, uint32_t limit, LEAFDRUM_AREAS) {
-    uint32_t q = counts(&s, node_words, level_words, worker_words), answer, node, done = 0;
+    uint32_t q = counts(&s, node_words, level_words, worker_words), answer, node, failed, done = 0, exchanges = 0, failures = 0;
     if (q) return reply(q, 0, 0, s);
     for (size_t k = 0; k < count; k++)
         if (list[k] >= s.workers) return reply(4, 0, 0, s);
     for (size_t k = 0; k < count && done < limit; k++) {
-        uint32_t *w = workers + 128 * list[k];
-        q = fits(&s, w) ? w[W_KIND] == IDLE ? 8 : act(&s, w, nodes, levels, &answer, &node) : 6;
-        if (q == 6) {
-            R r = reply(6, 0, 0, s);
-            r.turns = done;
-            return r;
-        }
-        if (q != 8) done++;
+        uint32_t *w = workers + 128 * list[k], kind = w[W_KIND];
+        q = fits(&s, w) ? kind == IDLE ? 8 : act(&s, w, nodes, levels, &answer, &node, &failed) : 6;
+        if (q == 6) break;
+        if (q == 8) continue;
+        done++;
+        if (EXCHANGES >> kind & 1) exchanges++, failures += failed;
     }
-    R r = reply(0, 0, 0, s);
-    r.turns = done;
+    R r = reply(q == 6 ? 6 : 0, 0, 0, s);
+    r.turns = done, r.exchanges_done = exchanges - failures, r.exchanges_failed = failures;
     return r;
 }

@@ -1,8 +1,9 @@
-/* How a firmware embeds the table: lend three areas, open, start calls, give turns. Build: gcc examples/embed.c target/staticlib/libexport.a */
+/* How a firmware embeds the table: lend three areas, open, start calls, give turns, one by one or as a list.
+   Build: gcc examples/embed.c target/staticlib/libexport.a */
 #include "../include/leafdrum.h"
 #include <stdio.h>
 
-enum { WORKERS = 2, LIMIT = 4, NODES = 8, LEVELS = 1 + 7 * (NODES / LIMIT) + WORKERS };
+enum { WORKERS = 4, LIMIT = 4, NODES = 8, LEVELS = 1 + 7 * (NODES / LIMIT) + WORKERS };
 static uint32_t nodes[2 * NODES], levels[10 * LEVELS], workers[128 * WORKERS];
 #define AREAS nodes, sizeof nodes / 4, levels, sizeof levels / 4, workers, sizeof workers / 4
 
@@ -18,6 +19,16 @@ int main(void) {
         r = leafdrum_turn(r.settings, order[k], AREAS);
         if (r.answer == LEAFDRUM_NEW) printf("worker %u: new, node %u\n", order[k], r.node);
         if (r.answer == LEAFDRUM_FOUND) printf("worker %u: found, node %u\n", order[k], r.node);
+    }
+    /* all four report the pixel at row 512, column 0, and one list gives the turns: all look, all take a node, all put it. One exchange is done, the others
+       fail, as many as can; what a list reports is of its own turns alone */
+    for (uint32_t i = 0; i < WORKERS; i++) r = leafdrum_start(r.settings, i, 512, 0, AREAS);
+    static const uint8_t list[] = {0, 1, 2, 3, 0, 1, 2, 3, 0, 1, 2, 3};
+    r = leafdrum_turns(r.settings, list, sizeof list, sizeof list, AREAS);
+    printf("list: %u turns, exchanges %u done, %u failed\n", r.turns, r.exchanges_done, r.exchanges_failed);
+    for (uint32_t i = 0; i < WORKERS; i++) {
+        leafdrum_reply last = leafdrum_last(r.settings, i, AREAS);
+        printf("worker %u: %s, node %u\n", i, last.answer == LEAFDRUM_NEW ? "new" : "found", last.node);
     }
     printf("nodes taken %u, levels taken %u\n", r.settings.nodes_taken, r.settings.levels_taken);
     return 0;

@@ -21,10 +21,12 @@ typedef struct {
 enum { LEAFDRUM_NONE = 0, LEAFDRUM_NEW = 1, LEAFDRUM_FOUND = 2, LEAFDRUM_FULL = 3, LEAFDRUM_OPEN = 4 };
 
 typedef struct {
-    uint32_t number; /* 0: carried out; else the number of the refusal, 1 to 9 */
-    uint32_t answer; /* one of the answers above; 0 for a refusal other than "full", an opening and a list */
-    uint32_t node;   /* the node of "new" and "found", else 0 */
-    uint32_t turns;  /* turns done by leafdrum_turns, else 0 */
+    uint32_t number;           /* 0: carried out; else the number of the refusal, 1 to 9 */
+    uint32_t answer;           /* one of the answers above; 0 for a refusal other than "full", an opening and a list */
+    uint32_t node;             /* the node of "new" and "found", else 0 */
+    uint32_t turns;            /* turns done by leafdrum_turns, else 0 */
+    uint32_t exchanges_done;   /* of these turns: exchanges that were done, else 0 */
+    uint32_t exchanges_failed; /* of these turns: exchanges that failed, else 0 */
     leafdrum_settings settings;
 } leafdrum_reply;
 
@@ -35,6 +37,8 @@ typedef struct {
 leafdrum_reply leafdrum_open(leafdrum_settings settings, LEAFDRUM_AREAS);
 leafdrum_reply leafdrum_start(leafdrum_settings settings, uint32_t worker, uint32_t row, uint32_t column, LEAFDRUM_AREAS);
 leafdrum_reply leafdrum_turn(leafdrum_settings settings, uint32_t worker, LEAFDRUM_AREAS);
+/* A list reports the exchanges of its own turns, also where a 6 or the limit ends it. Of all turns since an opening, those of leafdrum_turn included,
+   exchanges that failed are at most (workers - 1) times those that were done. */
 leafdrum_reply leafdrum_turns(leafdrum_settings settings, const uint8_t *list, size_t count, uint32_t limit, LEAFDRUM_AREAS);
 leafdrum_reply leafdrum_last(leafdrum_settings settings, uint32_t worker, LEAFDRUM_AREAS);
 

@@ -38,8 +38,10 @@ static void structs(void) {
     FIELD(leafdrum_reply, answer, 4);
     FIELD(leafdrum_reply, node, 8);
     FIELD(leafdrum_reply, turns, 12);
-    same("place of settings", offsetof(leafdrum_reply, settings), 16);
-    same("size of leafdrum_reply", sizeof(leafdrum_reply), 36);
+    FIELD(leafdrum_reply, exchanges_done, 16);
+    FIELD(leafdrum_reply, exchanges_failed, 20);
+    same("place of settings", offsetof(leafdrum_reply, settings), 24);
+    same("size of leafdrum_reply", sizeof(leafdrum_reply), 44);
 }
 
 static leafdrum_settings with(uint32_t crew, uint32_t limit, uint32_t count, uint32_t nodes_taken, uint32_t levels_taken) {
@@ -120,6 +122,23 @@ static void arguments(void) {
     same("nodes taken by a list", r.settings.nodes_taken, 1);
 }
 
+/* Three workers race for a pixel, all before their Put: of a list one exchange is done, two fail; of everything else none is told. */
+static void exchanges(void) {
+    static const uint8_t list[] = {0, 1, 2, 0, 1, 2, 0, 1, 2};
+    leafdrum_reply r = leafdrum_open(with(3, 2, 11, 0, 0), AREAS);
+    for (uint32_t i = 0; i < 3; i++) r = leafdrum_start(r.settings, i, 0, 0, AREAS);
+    same("exchanges done by a start", r.exchanges_done, 0);
+    same("exchanges failed of a start", r.exchanges_failed, 0);
+    r = leafdrum_turns(r.settings, list, 6, 9, AREAS);
+    same("exchanges done before the Puts", r.exchanges_done, 0);
+    same("exchanges failed before the Puts", r.exchanges_failed, 0);
+    r = leafdrum_turns(r.settings, list, 9, 9, AREAS);
+    same("turns done by the Puts", r.turns, 3);
+    same("exchanges done by the Puts", r.exchanges_done, 1);
+    same("exchanges failed by the Puts", r.exchanges_failed, 2);
+    same("nodes taken after the race", r.settings.nodes_taken, 3);
+}
+
 /* Each constant against the answer that document 01 gives the call. */
 static void answers(void) {
     leafdrum_settings s = leafdrum_open(with(3, 2, 4, 0, 0), AREAS).settings;
@@ -136,6 +155,8 @@ static void answers(void) {
         same("its node", r.node, k);
         same("its number", r.number, 0);
         same("its turns", r.turns, 0);
+        same("its exchanges done", r.exchanges_done, 0);
+        same("its exchanges failed", r.exchanges_failed, 0);
         same("nodes taken after it", r.settings.nodes_taken, k + 1);
         same("levels taken after it", r.settings.levels_taken, 1);
         s = r.settings;
@@ -158,6 +179,7 @@ int main(void) {
     fields();
     areas(with(3, 2, 11, 7, 9));
     arguments();
+    exchanges();
     answers();
     return failed;
 }

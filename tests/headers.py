@@ -17,10 +17,12 @@ LIMIT = "    uint32_t limit;        /* chain limit, 1 to 8 */\n"
 NODES = "    uint32_t nodes;        /* 1 to 4096 */\n"
 NODES_TAKEN = "    uint32_t nodes_taken;  /* set by leafdrum_open */\n"
 LEVELS_TAKEN = "    uint32_t levels_taken; /* set by leafdrum_open */\n"
-NUMBER = "    uint32_t number; /* 0: carried out; else the number of the refusal, 1 to 9 */\n"
-ANSWER = "    uint32_t answer; /* one of the answers above; 0 for a refusal other than \"full\", an opening and a list */\n"
-NODE = "    uint32_t node;   /* the node of \"new\" and \"found\", else 0 */\n"
-TURNS = "    uint32_t turns;  /* turns done by leafdrum_turns, else 0 */\n"
+NUMBER = "    uint32_t number;           /* 0: carried out; else the number of the refusal, 1 to 9 */\n"
+ANSWER = "    uint32_t answer;           /* one of the answers above; 0 for a refusal other than \"full\", an opening and a list */\n"
+NODE = "    uint32_t node;             /* the node of \"new\" and \"found\", else 0 */\n"
+TURNS = "    uint32_t turns;            /* turns done by leafdrum_turns, else 0 */\n"
+DONE = "    uint32_t exchanges_done;   /* of these turns: exchanges that were done, else 0 */\n"
+FAILED = "    uint32_t exchanges_failed; /* of these turns: exchanges that failed, else 0 */\n"
 SETTINGS = "    leafdrum_settings settings;\n"
 START = "uint32_t worker, uint32_t row, uint32_t column, "
 CONSTANTS = "LEAFDRUM_NONE = 0, LEAFDRUM_NEW = 1, LEAFDRUM_FOUND = 2, LEAFDRUM_FULL = 3, LEAFDRUM_OPEN = 4"
@@ -39,8 +41,13 @@ WRONG = [
     ("reply: number after answer", NUMBER + ANSWER, ANSWER + NUMBER),
     ("reply: answer after node", ANSWER + NODE, NODE + ANSWER),
     ("reply: node after turns", NODE + TURNS, TURNS + NODE),
-    ("reply: turns after settings", TURNS + SETTINGS, SETTINGS + TURNS),
+    ("reply: turns after exchanges_done", TURNS + DONE, DONE + TURNS),
+    ("reply: exchanges_done after exchanges_failed", DONE + FAILED, FAILED + DONE),
+    ("reply: exchanges_failed after settings", FAILED + SETTINGS, SETTINGS + FAILED),
     ("reply: no turns", TURNS, ""),
+    ("reply: no exchanges_failed", FAILED, ""),
+    ("reply: no exchanges, as before document 02's request 10", DONE + FAILED, ""),
+    ("reply: exchanges_done of 64 bits", DONE, DONE.replace("uint32_t", "uint64_t")),
     ("reply: number of 64 bits", NUMBER, NUMBER.replace("uint32_t", "uint64_t")),
     ("reply: number of 16 bits", NUMBER, NUMBER.replace("uint32_t", "uint16_t")),
     ("constants: none and open exchanged", CONSTANTS, CONSTANTS.replace("NONE = 0", "NONE = 4").replace("OPEN = 4", "OPEN = 0")),

@@ -14,7 +14,7 @@ class Settings(ctypes.Structure):
 
 
 class Reply(ctypes.Structure):
-    _fields_ = [(name, Word) for name in ("number", "answer", "node", "turns")] + [("settings", Settings)]
+    _fields_ = [(name, Word) for name in ("number", "answer", "node", "turns", "exchanges_done", "exchanges_failed")] + [("settings", Settings)]
 
 
 def read(path):

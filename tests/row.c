@@ -1,4 +1,4 @@
-/* Demand 3 on random orders of starts, turns and lists of turns, judged by the replies and by what is reached, without a model: row [SEED [TABLES]]
+/* Demand 3 and the bound of failed exchanges on random orders of starts, turns and lists of turns, judged without a model: row [SEED [TABLES]]
    Relies on include/leafdrum.h and the library; with -DTABLE=by_hand on bench/by_hand.c in its place. Table k has seed SEED + k: row SEED 1 runs one again. */
 #include "../include/leafdrum.h"
 #include <stdio.h>
@@ -30,7 +30,7 @@ static size_t level_words;
 /* What is asked. Where all of it holds there is document 01's row: each "new" and "found" put where it ends, each "full" where it starts. */
 enum check {
     REFUSED, SIX, REFUSAL, NEW_PIXEL, NEW_NODE, FOUND_FIRST, FOUND_NODE, FULL_EARLY, FULL_PLACED, LOST, NOT_PLACED, PIXEL_WORD, UNTAKEN, TAKEN, SPARE, LEVELS_HELD,
-    LAST, DONE, ENDLESS, CHECKS
+    LAST, DONE, COUNTED, BOUND, ALONE, ENDLESS, CHECKS
 };
 static const char *const names[CHECKS] = {
     [REFUSED] = "refused without a reason",
@@ -51,6 +51,9 @@ static const char *const names[CHECKS] = {
     [LEVELS_HELD] = "more levels held than workers",
     [LAST] = "last answer not as the call ended",
     [DONE] = "turns done not counted",
+    [COUNTED] = "exchanges of a list not counted",
+    [BOUND] = "more exchanges failed than the bound",
+    [ALONE] = "exchange of a worker alone failed",
     [ENDLESS] = "call alone without end",
 };
 static uint64_t seed;
@@ -102,10 +105,62 @@ static void carried_out(R r, uint32_t turns) {
     S t = r.settings;
     must(r.number != 6, SIX);
     must(r.number == (r.answer == LEAFDRUM_FULL ? 9 : 0), REFUSED);
+    must(r.exchanges_done + r.exchanges_failed <= r.turns, COUNTED); /* none but of a list */
     must(t.workers == s.workers && t.limit == s.limit && t.nodes == s.nodes && t.nodes_taken <= t.nodes, TAKEN);
     must(t.nodes_taken >= s.nodes_taken && t.levels_taken >= s.levels_taken, TAKEN);
     must(t.nodes_taken - s.nodes_taken + t.levels_taken - s.levels_taken <= turns, TAKEN);
     s = t;
+}
+
+/* Kinds of turn and words of a record by their numbers in docs/LAYOUT.md. */
+enum { TAKE = 2, PUT = 3, TAKETAIL = 6, APPEND = 7, LEVEL = 8, CLOSE = 9, SETPUT = 15, SETAPPEND = 18, SETLEVEL = 19, SETCLOSE = 20 };
+enum { W_KIND, W_PIXEL, W_LEVEL, W_NODE, W_MOVES = 9 };
+
+static uint32_t entry_of(uint32_t level, uint32_t pixel) { return levels[10 * level + 2 + (pixel >> 3 * (7 - (levels[10 * level + 1] & 7)) & 7)]; }
+
+/* A worker is committed from the turn that read a cell as its level to the turn that exchanges the cell from it; doomed, if the cell holds something else. */
+static int doomed(uint32_t i) {
+    const uint32_t *w = workers + 128 * i, own = 2 * w[W_LEVEL], *move;
+    switch (w[W_KIND]) {
+    case TAKE:
+    case PUT: return entry_of(w[W_LEVEL], w[W_PIXEL]) != own;
+    case SETPUT:
+        move = w + 5 + 11 * w[W_MOVES]; /* the innermost one */
+        return entry_of(w[W_LEVEL], nodes[2 * move[2 + move[2]]]) != own;
+    case TAKETAIL:
+    case APPEND:
+    case LEVEL:
+    case CLOSE:
+    case SETAPPEND:
+    case SETLEVEL:
+    case SETCLOSE: return nodes[2 * w[W_NODE] + 1] != own;
+    default: return 0;
+    }
+}
+
+/* Exchanges that were done and that failed. */
+typedef struct { unsigned long done, failed; } exchanges;
+static exchanges in_table, in_all;
+static unsigned long bound_reached;
+
+/* The exchange of worker i's next turn, if it makes one and is not refused, is added: it fails if the cell holds something else than the worker's level. */
+static void count_next(uint32_t i, exchanges *e) {
+    switch (workers[128 * i + W_KIND]) {
+    case PUT:
+    case APPEND:
+    case CLOSE:
+    case SETPUT:
+    case SETAPPEND:
+    case SETCLOSE: *(doomed(i) ? &e->failed : &e->done) += 1;
+    }
+}
+
+/* "Failed exchanges are at most (placing workers - 1) x successful ones", and a doomed worker's will be one of them. */
+static void bound(void) {
+    unsigned long failing = in_table.failed, most = (s.workers - 1) * in_table.done;
+    for (uint32_t i = 0; i < s.workers; i++) failing += (unsigned long)doomed(i);
+    must(failing <= most, BOUND);
+    bound_reached += most && in_table.failed == most;
 }
 
 static void start(uint32_t i, uint32_t k) {
@@ -116,6 +171,7 @@ static void start(uint32_t i, uint32_t k) {
 }
 
 static void turn(uint32_t i) {
+    count_next(i, &in_table);
     R r = OF_TABLE(turn)(s, i, AREAS);
     carried_out(r, 1);
     turns_done++;
@@ -124,23 +180,44 @@ static void turn(uint32_t i) {
     if (!broken) ends(i, r.answer, r.node);
 }
 
+/* What a list has to report: its turns, done one by one on memory that is put back. */
+static R turn_by_turn(const uint8_t *entry, uint32_t count, uint32_t limit) {
+    static uint32_t kept_nodes[2 * NODES], kept_levels[10 * LEVELS], kept_workers[128 * WORKERS];
+    const S kept = s;
+    exchanges e = {0, 0};
+    R told = {0};
+    memcpy(kept_nodes, nodes, 2 * s.nodes * sizeof *nodes);
+    memcpy(kept_levels, levels, level_words * sizeof *levels);
+    memcpy(kept_workers, workers, 128 * s.workers * sizeof *workers);
+    for (uint32_t k = 0; k < count && told.turns < limit; k++) {
+        count_next(entry[k], &e);
+        R r = OF_TABLE(turn)(s, entry[k], AREAS);
+        s = r.settings, told.turns += r.number != 8;
+    }
+    told.exchanges_done = (uint32_t)e.done, told.exchanges_failed = (uint32_t)e.failed;
+    s = kept;
+    memcpy(nodes, kept_nodes, 2 * s.nodes * sizeof *nodes);
+    memcpy(levels, kept_levels, level_words * sizeof *levels);
+    memcpy(workers, kept_workers, 128 * s.workers * sizeof *workers);
+    return told;
+}
+
 /* A list tells no ends: they are read as last answers. Its "new" come first here, as a list does not tell the order of its ends. */
 static void list(void) {
     static const uint32_t order[] = {LEAFDRUM_NEW, LEAFDRUM_FOUND, LEAFDRUM_FULL};
     uint8_t entry[40];
     R last[WORKERS];
-    uint32_t count = draw(sizeof entry + 1), limit = draw(50), open = 0, ended_now = 0;
-    for (uint32_t k = 0; k < count; k++) entry[k] = (uint8_t)draw(s.workers), open += calls[entry[k]].open;
-    R r = OF_TABLE(turns)(s, entry, count, limit, AREAS);
+    uint32_t count = draw(sizeof entry + 1), limit = draw(50);
+    for (uint32_t k = 0; k < count; k++) entry[k] = (uint8_t)draw(s.workers);
+    R told = turn_by_turn(entry, count, limit), r = OF_TABLE(turns)(s, entry, count, limit, AREAS);
     carried_out(r, r.turns);
+    must(r.turns == told.turns, DONE);
+    must(r.exchanges_done == told.exchanges_done && r.exchanges_failed == told.exchanges_failed, COUNTED);
+    in_table.done += r.exchanges_done, in_table.failed += r.exchanges_failed;
     for (uint32_t i = 0; i < s.workers; i++) {
         last[i] = OF_TABLE(last)(s, i, AREAS);
         must(last[i].number == 0 && (calls[i].open || last[i].answer == calls[i].answer), LAST);
-        ended_now += calls[i].open && last[i].answer != LEAFDRUM_OPEN;
     }
-    /* entries of a worker whose call has ended in this list are not counted, and which these are the list does not tell */
-    if (open > limit) open = limit;
-    must(ended_now ? r.turns >= ended_now && r.turns <= open : r.turns == open, DONE);
     turns_done += r.turns, lists_done++;
     for (int a = 0; a < 3; a++)
         for (uint32_t i = 0; i < s.workers && !broken; i++)
@@ -159,6 +236,7 @@ static void refused(uint32_t i) {
     default: number = calls[i].open ? 7 : 8, r = calls[i].open ? OF_TABLE(start)(s, i, 1, 2, AREAS) : OF_TABLE(turn)(s, i, AREAS);
     }
     must(r.number == number && r.answer == LEAFDRUM_NONE && memcmp(&r.settings, &s, sizeof s) == 0, REFUSAL);
+    must(r.exchanges_done == 0 && r.exchanges_failed == 0, COUNTED);
 }
 
 static uint32_t visit, node_seen[NODES], level_seen[LEVELS], waiting[NODES + LEVELS];
@@ -224,6 +302,7 @@ static void open_table(void) {
     for (uint32_t p = 0; pixels < 1u << bits; p = (p - mask) & mask) book[pixels].placed = 0, book[pixels++].pixel = base ^ p;
     memset(holds, 0, sizeof holds);
     memset(calls, 0, sizeof calls);
+    in_table.done = in_table.failed = 0;
     nodes_placed = 0, broken = 0, operation = 0;
     level_words = 10 * (size_t)OF_TABLE(level_count)(s);
     for (size_t k = 0; k < 2 * s.nodes; k++) nodes[k] = draw(1 << 25);
@@ -234,11 +313,14 @@ static void open_table(void) {
     must(r.number == 0 && r.answer == LEAFDRUM_NONE && memcmp(&r.settings, &s, sizeof s) == 0, REFUSED);
 }
 
-/* A worker has all turns until its call has ended, which takes some hundred at most. */
+/* A worker has all turns until its call has ended, which takes some hundred at most. Where it is not doomed no exchange fails, else one at most. */
 static void alone(uint32_t i) {
+    unsigned long most = in_table.failed + (unsigned long)doomed(i);
     for (uint32_t k = 0; calls[i].open && !broken; k++, operation++) {
         must(k < 5000, ENDLESS);
         turn(i);
+        must(in_table.failed <= most, ALONE);
+        bound();
         if (!broken) compare();
     }
 }
@@ -274,6 +356,7 @@ static void run(void) {
         else if (which <= 2) list();
         else if (calls[i].open) turn(i);
         else start(i, draw(pixels));
+        bound();
         if (!broken) compare();
         if (operation % 16 == 0 && !broken) last_answers();
     }
@@ -288,12 +371,16 @@ int main(int count, char **word) {
         state = seed * 0xD1342543DE82EF95u;
         open_table();
         if (!broken) run();
+        in_all.done += in_table.done, in_all.failed += in_table.failed;
         bad |= broken;
     }
     for (int c = 0; c < CHECKS; c++)
         if (tables_with[c]) printf("row: %s: in %u of %llu tables\n", names[c], tables_with[c], (unsigned long long)tables);
     if (bad) return 1;
-    printf("row: %llu tables, %lu turns, %lu lists; %lu new, %lu found, %lu full; reached nodes compared %lu times\n", (unsigned long long)tables, turns_done,
+    printf("row: %llu tables, %lu turns, %lu lists; %lu new, %lu found, %lu full; reached nodes compared %lu times; ", (unsigned long long)tables, turns_done,
            lists_done, ended[LEAFDRUM_NEW], ended[LEAFDRUM_FOUND], ended[LEAFDRUM_FULL], compared);
+    printf("exchanges %lu done, %lu failed, the bound reached %lu times\n", in_all.done, in_all.failed, bound_reached);
+    /* what the tests' own run never reaches was not tested */
+    if (count == 1 && (!ended[LEAFDRUM_FULL] || !lists_done || !bound_reached)) return puts("row: a full call, a list or the bound was never reached"), 1;
     return 0;
 }

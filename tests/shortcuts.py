@@ -21,6 +21,7 @@ SET_COUNT = "            w[W_COUNT] = k == SETREAD || k == SETPUT ? 1"
 SPARE = "        if (w[W_HNODE]) n = w[W_HNODE] - 1;\n"
 NEXT = "        else if (s->nodes_taken < s->nodes) n = s->nodes_taken++;\n"
 SAME = "            if (nodes[2 * n] == w[W_PIXEL]) {\n"
+COUNTS = "        if (EXCHANGES >> kind & 1) exchanges++, failures += failed;\n"
 FOUND = "w[W_KIND] = IDLE, w[W_ANSWER] = 2, w[W_ANODE] = n;\n                *answer = 2, *node = n;"
 
 
@@ -102,7 +103,19 @@ VERSIONS = [
     ("every call turned away", ["REFUSED"], [("    if (w[W_KIND] != IDLE) return reply(7, 0, 0, s);\n", "    return reply(7, 0, 0, s);\n")]),
     ("an idle worker is answered", ["REFUSAL"], [
         ("    if (w[W_KIND] == IDLE) return reply(8, 0, 0, s);\n", "    if (w[W_KIND] == IDLE) return reply(0, w[W_ANSWER], w[W_ANODE], s);\n")]),
-    ("a list counts idle entries", ["DONE"], [("        if (q != 8) done++;\n", "        done++;\n")]),
+    ("a list counts idle entries", ["DONE"], [("        if (q == 8) continue;\n", "        if (q == 8) { done++; continue; }\n")]),
+    ("a failed exchange counts as done", ["COUNTED"], [(COUNTS, COUNTS.replace(", failures += failed", ""))]),
+    ("a failed exchange counts as done too", ["COUNTED"], [("exchanges_done = exchanges - failures", "exchanges_done = exchanges")]),
+    ("a Move's exchanges are not counted", ["COUNTED"], [(COUNTS, COUNTS.replace("& 1)", "& 1 && kind < CHAINHEAD)"))]),
+    ("a Close inside a Move is not counted", ["COUNTED"], [(COUNTS, COUNTS.replace("& 1)", "& 1 && kind != SETCLOSE)"))]),
+    ("what a Move writes counts as an exchange", ["COUNTED"], [(COUNTS, COUNTS.replace("& 1)", "& 1 || kind == SETNEXT || kind == MOVEEND)"))]),
+    ("the turn at the limit is not counted", ["COUNTED"], [(COUNTS, COUNTS.replace("& 1)", "& 1 && done < limit)"))]),
+    # what fails is counted here too, so that the bound alone finds it
+    ("a failed Put is tried again", ["BOUND"], [failing("PUT", "*failed = 1; return 0;")]),
+    ("a failed Append is tried again", ["BOUND"], [failing("APPEND", "*failed = 1; return 0;")]),
+    ("a failed Close is tried again", ["BOUND"], [(CLOSES, CLOSES + "            if (k == CLOSE) { *failed = 1; return 0; }\n")]),
+    ("Look takes a used entry for empty", ["BOUND", "ALONE"], [("word == 2 * h ? TAKE : READ;", "TAKE;")]),
+    ("SetLook takes a used entry for empty", ["ALONE"], [("word == 2 * h ? SETPUT : SETREAD;", "SETPUT;")]),
 ]
 
 

@@ -10,9 +10,9 @@ WORDS = "kind pixel level node count held_node held_level answer answer_node mov
 NONE = 4294967295
 
 
-def program():
-    """The path of words.c compiled over the library; built anew where the code, the library or words.c is newer."""
-    lib, src, out = (os.path.join(ROOT, p) for p in ("target/staticlib/libexport.a", "tools/words.c", "target/words"))
+def program(name):
+    """The path of tools/NAME.c compiled over the library; built anew where the code, the library or that file is newer."""
+    lib, src, out = (os.path.join(ROOT, p) for p in ("target/staticlib/libexport.a", "tools/%s.c" % name, "target/" + name))
     code = glob.glob(os.path.join(ROOT, "crates/*/src/*.rt"))
     if not os.path.exists(lib) or os.path.getmtime(lib) < max(map(os.path.getmtime, code)):
         subprocess.run(["sh", "tools/build.sh"], cwd=ROOT, check=True, stdout=2)
@@ -47,7 +47,7 @@ class State:
 
 def states(text):
     """The state after each line of a text in bytes, refused lines too; none where its first line is refused."""
-    out = subprocess.run([program()], input=text, stdout=subprocess.PIPE, check=True).stdout.decode()
+    out = subprocess.run([program("words")], input=text, stdout=subprocess.PIPE, check=True).stdout.decode()
     found = []
     for row in out.splitlines():
         word, _, rest = row.partition(" ")

@@ -1,10 +1,10 @@
--- Document 01's "Bench cases (P: in the proved table)": each row opens a table over words that are all 7, and says what each operation must answer.
+-- Document 01's "Bench cases (P: in the proved table)", and two of document 02. Each row opens a table over words that are all 7, and says what must be answered.
 -- Relies on the operations' definitions at width 3.
 use Prim.Native.Nat.{ℕ, zero, suc, _*_}
 use mathlib.Core.Bool.{Bool, true, false}
 use mathlib.Core.List.{List, [], _∷_, _++_}
 use lib.Dec.{eqb}
-use lib.ListN.{replicate}
+use lib.ListN.{length, replicate}
 use Rattle.words.specs.Choice.{both}
 use Rattle.settings.specs.Sizes.{nodeWords, levelWords, workerWords, levelCount}
 use Rattle.settings.specs.declared.Settings.{Settings}
@@ -16,14 +16,17 @@ use Rattle.record.specs.Kinds.{answerNo, answerNode}
 use Rattle.rules.specs.Operations.{opening}
 use Rattle.rules.specs.Lists.{State, after}
 use Rattle.rules.specs.Calls.{starts, turns, happens}
+use Rattle.rules.specs.Exchanges.{listReport}
 
 -- A line of a row.
 --   start i r c n: a start of worker i for row r and column c has number n
 --   runs i k n a: worker i has k turns; before the last one the call goes on, and the last one has number n and answer a
+--   lists l d f: a list of turns l does all of them, and reports d exchanges done and f failed
 --   taken n g: nodes taken and levels taken
 pub data Line : Type 0 where
   start : ℕ → ℕ → ℕ → ℕ → Line
   runs : ℕ → ℕ → ℕ → Answer → Line
+  lists : List ℕ → ℕ → ℕ → Line
   taken : ℕ → ℕ → Line
 
 -- workers, chain limit, nodes, the number that the opening has, and the lines after it
@@ -54,6 +57,10 @@ race =
     ∷ runs 1 1 0 (Found 0)
     ∷ []
 
+-- a turn of each of four workers
+abbrev pub fours : List ℕ
+fours = 0 ∷ 1 ∷ 2 ∷ 3 ∷ []
+
 unfoldable pub table : List Row
 table =
     -- P1 Fresh, limit 4: (0,0) is new 0 after 3 turns.
@@ -82,6 +89,10 @@ table =
     ∷ row 1 9 1 1 []
     -- P12 Worker 15 of 16 passes, 16 gives 4.
     ∷ row 16 8 1 0 (start 16 0 0 4 ∷ start 15 0 0 0 ∷ runs 15 3 0 (New 0) ∷ [])
+    -- Document 02, how often exchanges fail: four workers race for one pixel, one exchange is done and three fail, which is the bound.
+    ∷ row 4 4 8 0 (start 0 0 0 0 ∷ start 1 0 0 0 ∷ start 2 0 0 0 ∷ start 3 0 0 0 ∷ lists (fours ++ fours ++ fours) 1 3 ∷ taken 4 1 ∷ [])
+    -- P6 as lists: the second call closes seven chains, each Move sets one node, and the call puts its own: 15 exchanges, none fails.
+    ∷ row 1 1 2 0 (start 0 0 0 0 ∷ lists (replicate 3 0) 1 0 ∷ start 0 0 1 0 ∷ lists (replicate 80 0) 15 0 ∷ taken 2 8 ∷ [])
     ∷ []
 
 -- the settings and areas that a row's opening is given: every word, also nodes taken and levels taken, is 7
@@ -110,6 +121,9 @@ runsOf i (suc (suc k)) n a x = more (runsOf i (suc k) n a (after (happens 3 (tur
 unfoldable pub lineOf : Line → State → Bool × State
 lineOf (start i r c n) x = (eqb (happens 3 (starts i r c) x .reply .number) n, after (happens 3 (starts i r c) x))
 lineOf (runs i k n a) x = runsOf i k n a x
+lineOf (lists l d f) x =
+    let r = listReport 3 (x .settings) l (length l) (x .areas) in
+    (both (both (eqb (r .result .reply .number) 0) (eqb (r .result .reply .turns) (length l))) (both (eqb (r .done) d) (eqb (r .failed) f)), after (r .result))
 lineOf (taken n g) x = (both (eqb (x .settings .«nodes_taken») n) (eqb (x .settings .«levels_taken») g), x)
 
 unfoldable pub linesPass : List Line → State → Bool

@@ -4,19 +4,21 @@ ghost use mathlib.Core.Path.{_≡_};
 ghost use Rattle.areas.specs.Memory.{areas};
 ghost use Rattle.record.specs.Kinds.{answerNo, answerNode};
 ghost use Rattle.rules.specs.Operations.{opening, start, turn, lastAnswer};
-ghost use Rattle.rules.specs.Lists.{turns};
-ghost use Rattle.export.specs.Shown.{numbersOf, shown, exported, countOrZero};
+ghost use Rattle.rules.specs.Exchanges.{listReport};
+ghost use Rattle.export.specs.Shown.{numbersOf, shown, exported, exportedList, countOrZero};
 use record::Answer;
 use record::Reply;
 use settings::Settings;
 
-// leafdrum_reply: the number of the refusal or 0, the answer and its node, the turns done, the settings.
+// leafdrum_reply: the number of the refusal or 0, the answer and its node; of a list the turns done, and its exchanges done and failed; the settings.
 #[repr(C)]
 pub struct LeafdrumReply {
     pub number: u32,
     pub answer: u32,
     pub node: u32,
     pub turns: u32,
+    pub exchanges_done: u32,
+    pub exchanges_failed: u32,
     pub settings: Settings,
 }
 
@@ -44,8 +46,8 @@ fn answer_node(a: Answer) -> u32
     }
 }
 
-fn numbers(r: Reply) -> LeafdrumReply
-    ensures { λ x. ⌜ x ≡ numbersOf r ⌝ }
+fn numbers(r: Reply, done: u32, failed: u32) -> LeafdrumReply
+    ensures { λ x. ⌜ x ≡ numbersOf r done failed ⌝ }
 {
     let a = r.answer;
     let s = r.settings;
@@ -54,6 +56,8 @@ fn numbers(r: Reply) -> LeafdrumReply
         answer: answer_no(a),
         node: answer_node(a),
         turns: r.turns,
+        exchanges_done: done,
+        exchanges_failed: failed,
         settings: s,
     }
 }
@@ -67,7 +71,8 @@ pub extern "C" fn leafdrum_open(
 ) -> LeafdrumReply
     ensures { λ r. ⌜ shown r (areas (now (nodes .exit)) (now (levels .exit)) (now (workers .exit))) ≡ exported (opening 3 settings (areas (now (nodes .entry)) (now (levels .entry)) (now (workers .entry)))) ⌝ }
 {
-    numbers(table::open(settings, nodes, levels, workers))
+    let r = table::open(settings, nodes, levels, workers);
+    numbers(r, 0, 0)
 }
 
 #[no_mangle]
@@ -82,7 +87,8 @@ pub extern "C" fn leafdrum_start(
 ) -> LeafdrumReply
     ensures { λ r. ⌜ shown r (areas (now (nodes .exit)) (now (levels .exit)) (now (workers .exit))) ≡ exported (start 3 settings worker row column (areas (now (nodes .entry)) (now (levels .entry)) (now (workers .entry)))) ⌝ }
 {
-    numbers(table::start(settings, worker, row, column, nodes, levels, workers))
+    let r = table::start(settings, worker, row, column, nodes, levels, workers);
+    numbers(r, 0, 0)
 }
 
 #[no_mangle]
@@ -95,7 +101,8 @@ pub extern "C" fn leafdrum_turn(
 ) -> LeafdrumReply
     ensures { λ r. ⌜ shown r (areas (now (nodes .exit)) (now (levels .exit)) (now (workers .exit))) ≡ exported (turn 3 settings worker (areas (now (nodes .entry)) (now (levels .entry)) (now (workers .entry)))) ⌝ }
 {
-    numbers(lists::turn(settings, worker, nodes, levels, workers))
+    let r = lists::turn(settings, worker, nodes, levels, workers);
+    numbers(r, 0, 0)
 }
 
 #[no_mangle]
@@ -107,9 +114,10 @@ pub extern "C" fn leafdrum_turns(
     levels: &mut [u32],
     workers: &mut [u32],
 ) -> LeafdrumReply
-    ensures { λ r. ⌜ shown r (areas (now (nodes .exit)) (now (levels .exit)) (now (workers .exit))) ≡ exported (turns 3 settings (now (list .entry)) limit (areas (now (nodes .entry)) (now (levels .entry)) (now (workers .entry)))) ⌝ }
+    ensures { λ r. ⌜ shown r (areas (now (nodes .exit)) (now (levels .exit)) (now (workers .exit))) ≡ exportedList (listReport 3 settings (now (list .entry)) limit (areas (now (nodes .entry)) (now (levels .entry)) (now (workers .entry)))) ⌝ }
 {
-    numbers(lists::turns(settings, list, limit, nodes, levels, workers))
+    let l = lists::turns(settings, list, limit, nodes, levels, workers);
+    numbers(l.reply, l.done, l.failed)
 }
 
 #[no_mangle]
@@ -122,7 +130,8 @@ pub extern "C" fn leafdrum_last(
 ) -> LeafdrumReply
     ensures { λ r. ⌜ shown r (areas (now (nodes .exit)) (now (levels .exit)) (now (workers .exit))) ≡ exported (lastAnswer 3 settings worker (areas (now (nodes .entry)) (now (levels .entry)) (now (workers .entry)))) ⌝ }
 {
-    numbers(table::last_answer(settings, worker, nodes, levels, workers))
+    let r = table::last_answer(settings, worker, nodes, levels, workers);
+    numbers(r, 0, 0)
 }
 
 // The number of levels that the level area holds; 0 for settings out of range.

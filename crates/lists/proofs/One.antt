@@ -27,6 +27,8 @@ use Rattle.record.specs.Layout.{workerPlace, headAt, store}
 use Rattle.record.proofs.Records.{head-stored}
 use Rattle.rules.specs.Heads.{ended}
 use Rattle.rules.specs.Lists.{state, after}
+use Rattle.rules.specs.Calls.{turns}
+use Rattle.rules.specs.Exchanges.{exchangeAt}
 use Rattle.rules.specs.Operations.{Result, result, reply, refused, recordOf, memoryOf, full, fullRecord, taken, turn, turnQuestions, question2Of, lastOf}
 use Rattle.words.specs.Choice.{firstNo, asks}
 use Rattle.rules.specs.Asked.{question4, question6, question8, question9}
@@ -149,9 +151,12 @@ module _ (w : ℕ) (s : Settings) (i : ℕ) (a : Areas) where
 
   -- the list of that entry alone
   abbrev alone : Run
-  alone = run 0 (state s a) 1
+  alone = run 0 (state s a) 1 0 0
 
-  ran-one : ranList w (i ∷ []) alone ≡ ranBy alone its
+  abbrev ran : Run
+  ran = ranBy alone (exchangeAt w (turns i) (state s a)) its
+
+  ran-one : ranList w (i ∷ []) alone ≡ ran
   unfolding ranList ranEntry pick
   ran-one = refl
 
@@ -159,15 +164,15 @@ module _ (w : ℕ) (s : Settings) (i : ℕ) (a : Areas) where
   refused-is n e p q = turn-refused w s i a (λ z. p (sym e ∙ z)) (λ z. q (sym e ∙ z)) ∙ ap (λ (k : ℕ). refused k s a) e
 
   module _ (t : Tally) {r : Reply} {x : Areas} {h : Head} (e : r ≡ oneReply s t h) (f : h ≡ headAt w (x .workers) i) where
-    one-refused : its .reply .number ≡ 6 → ranOf s t x ≡ ranBy alone its → result r x ≡ its
+    one-refused : its .reply .number ≡ 6 → ranOf s t x ≡ ran → result r x ≡ its
     unfolding ranBy oneReply
     one-refused n g =
-        let k : ranOf s t x ≡ run 6 (state s a) 1 = g ∙ pick-true _ _ _ (eq-eqb _ _ n) in
+        let k : ranOf s t x ≡ run 6 (state s a) 1 0 0 = g ∙ pick-true _ _ _ (eq-eqb _ _ n) in
         let u : r ≡ reply 6 Nothing 0 s = e ∙ pick-true _ _ _ (eq-eqb _ _ (ap (λ (y : Run). y .number) k)) in
         let v : x ≡ a = ap (λ (y : Run). y .state′ .areas) k in
         rw (u, v) (sym (refused-is 6 n (λ z. omega arith) (λ z. omega arith)))
 
-    one-idled : its .reply .number ≡ 8 → ranOf s t x ≡ ranBy alone its → result r x ≡ its
+    one-idled : its .reply .number ≡ 8 → ranOf s t x ≡ ran → result r x ≡ its
     unfolding ranBy oneReply
     one-idled n g =
         let k : ranOf s t x ≡ alone = g ∙ (pick-false _ _ _ (ne-eqb (its .reply .number) 6 (λ z. omega arith)) ∙ pick-true _ _ _ (eq-eqb _ _ n)) in
@@ -177,10 +182,10 @@ module _ (w : ℕ) (s : Settings) (i : ℕ) (a : Areas) where
         let v : x ≡ a = ap (λ (y : Run). y .state′ .areas) k in
         rw (u, v) (sym (refused-is 8 n (λ z. omega arith) (λ z. omega arith)))
 
-    one-taken : its .reply .number ≢ 6 → its .reply .number ≢ 8 → Told its → ranOf s t x ≡ ranBy alone its → result r x ≡ its
+    one-taken : its .reply .number ≢ 6 → its .reply .number ≢ 8 → Told its → ranOf s t x ≡ ran → result r x ≡ its
     unfolding ranBy oneReply
     one-taken p q told g =
-        let k : ranOf s t x ≡ run 0 (after its) 0 = g ∙ (pick-false _ _ _ (ne-eqb _ _ p) ∙ pick-false _ _ _ (ne-eqb _ _ q)) in
+        let k : ranOf s t x ≡ run 0 (after its) 0 _ _ = g ∙ (pick-false _ _ _ (ne-eqb _ _ p) ∙ pick-false _ _ _ (ne-eqb _ _ q)) in
         let m : t .number ≡ 0 = ap (λ (y : Run). y .number) k in
         let o : t .left ≡ 0 = ap (λ (y : Run). y .left) k in
         let c : countedBy s t ≡ its .reply .settings = ap (λ (y : Run). y .state′ .settings) k in
@@ -193,7 +198,7 @@ module _ (w : ℕ) (s : Settings) (i : ℕ) (a : Areas) where
         in
         rw (u, v) refl
 
-    by-number : Among (its .reply .number) → workerPlace w i + 10 ≤ length (a .workers) → ranOf s t x ≡ ranBy alone its → result r x ≡ its
+    by-number : Among (its .reply .number) → workerPlace w i + 10 ≤ length (a .workers) → ranOf s t x ≡ ran → result r x ≡ its
     by-number (is-six n) room g = one-refused n g
     by-number (is-eight n) room g = one-idled n g
     by-number (is-none n) room g = let p : its .reply .number ≢ 6 = λ z. omega arith in let q : its .reply .number ≢ 8 = λ z. omega arith in one-taken p q (reply-told room (is-none n) p q) g
@@ -202,13 +207,13 @@ module _ (w : ℕ) (s : Settings) (i : ℕ) (a : Areas) where
 -- one turn
 pub one-is :
     (s : Settings) (i : ℕ) (n g k : List ℕ) (t : Tally) {r : Reply} {x : Areas} {h : Head} {l : List ℕ}
-    → r ≡ oneReply s t h → h ≡ headAt 3 (x .workers) i → ranOf s t x ≡ ranList 3 l (run 0 (state s (areas n g k)) 1) → l ≡ i ∷ []
+    → r ≡ oneReply s t h → h ≡ headAt 3 (x .workers) i → ranOf s t x ≡ ranList 3 l (run 0 (state s (areas n g k)) 1 0 0) → l ≡ i ∷ []
     → firstFour 3 s i (length n) (length g) (length k) ≡ 0 → result r x ≡ turn 3 s i (areas n g k)
 unfolding workerPlace workerWords maxMoves depths
 one-is s i n g k t e f p q z =
     let room : 128 * i + 128 ≤ length k = four-inside s i (length n) (length g) (length k) refl z in
     by-number 3 s i (areas n g k) t e f (numbers 3 s i (areas n g k) z) (omega arith)
-    (p ∙ (ap (λ (y : List ℕ). ranList 3 y (run 0 (state s (areas n g k)) 1)) q ∙ ran-one 3 s i (areas n g k)))
+    (p ∙ (ap (λ (y : List ℕ). ranList 3 y (run 0 (state s (areas n g k)) 1 0 0)) q ∙ ran-one 3 s i (areas n g k)))
 
 -- what a list of the entry requires
 module _ (s : Settings) (i n g k : ℕ) (z : firstFour 3 s i n g k ≡ 0) where

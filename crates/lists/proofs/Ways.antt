@@ -5,36 +5,46 @@ use mathlib.Core.Path.{_≡_, refl, sym, ap, subst, _∙_}
 use mathlib.Core.Logic.{_≢_}
 use mathlib.Core.Bool.{Bool, true, false, not}
 use mathlib.Core.List.{List, [], _∷_}
+use native.Mathlib.Nat.{add-zero}
 use native.Mathlib.Numerals.{add-one}
 use native.Mathlib.Decide.{ℕ-discrete}
 use native.Mathlib.Omega.{arith}
 use lib.Dec.{eqb, ltb, leb}
 use lib.ListN.{length, getD, take, drop, drop-of-length-le}
 use lib.Seq.{take-all, drop-cons}
-use borrow.Author.Tests.{eq-eqb, ne-eqb, lt-ltb, ltb-true}
+use borrow.Author.Tests.{eq-eqb, ne-eqb, eqb-false, lt-ltb, ltb-true}
 use Rattle.words.specs.Choice.{pick, both, every, asks, firstNo}
 use Rattle.words.proofs.Choice.{true-false, pick-both, pick-true, pick-false, both-left, both-right}
 use Rattle.settings.specs.Cut.{counted, firstThree, Sized}
 use Rattle.settings.specs.declared.Settings.{Settings}
 use Rattle.settings.proofs.Laws.{three-yes, sized}
-use Rattle.areas.specs.Memory.{Areas, areas}
+use Rattle.areas.specs.Memory.{Areas, areas, memory}
 use Rattle.record.specs.declared.Answer.the-variants.{Nothing}
 use Rattle.record.specs.declared.Reply.{Reply}
+use Rattle.record.specs.declared.Exchange.{Exchange}
+use Rattle.record.specs.declared.Exchange.the-variants.{None, Failed}
+use Rattle.record.specs.declared.Exchange.the-variants as exchange
 use Rattle.record.specs.Kinds.{kindNo}
 use Rattle.record.specs.Layout.{headAt, load}
 use Rattle.rules.specs.Asked.{question4, question4All, question7, question8}
-use Rattle.rules.specs.Operations.{Result, result, reply, refused, unlessRefused, turn}
-use Rattle.rules.specs.Lists.{State, state, turns, turnsResult, visits, listQuestions}
+use Rattle.rules.specs.Operations.{Result, result, reply, refused, unlessRefused, recordOf, turn}
+use Rattle.rules.specs.Lists as many
+use Rattle.rules.specs.Lists.{State, state, after, listQuestions}
+use Rattle.rules.specs.Calls.{turns}
+use Rattle.rules.specs.Sequences.{eventsOf}
+use Rattle.rules.specs.Exchanges.{exchangeOf, exchangeAt, doneIn, failedIn, total, report, listReport}
 use Rattle.rules.proofs.OneTurn.{six-leaves}
 use Rattle.rules.proofs.Invariant.{SameSizes}
 use Rattle.rules.proofs.Three.{Three, three-stays, sizes-stay}
+use Rattle.rules.proofs.Exchanges.{one-exchange}
 use Rattle.rules.proofs.Entries.{eight-idle}
 use Rattle.table.specs.Cut.{firstFour}
-use Rattle.turns.specs.Cut.{turnHere, doneOf, Did, did, didBy, didHere}
+use Rattle.turns.specs.Cut.{turnHere, turnDone, Did, did, didOf, didHere}
 use Rattle.turns.specs.declared.Done.{Done}
 use Rattle.turns.proofs.Ways.{three-of, three-inside, here-idle, here-turn}
 use Rattle.lists.specs.declared.Tally.{Tally}
-use Rattle.lists.specs.Cut.{Run, run, countedBy, ranOf, tally, idleTally, openTally, overOf, ranBy, ranEntry, ranList, ranResult}
+use Rattle.lists.specs.declared.Listed.{Listed}
+use Rattle.lists.specs.Cut.{Run, run, countedBy, ranOf, tally, sixTally, idleTally, nextTally, openTally, reported, overOf, ranBy, ranEntry, ranList, ranReport}
 use Rattle.lists.proofs.ListCut.{stopped, refused-on, list-cut}
 
 -- questions 1 to 3 as the code asks them
@@ -48,17 +58,30 @@ module _ (t : Tally) where
   unfolding idleTally
   idle-skipped v e y = sym (pick-true _ _ _ (sym e ∙ y))
 
-  pub idle-spoiled : (v : ℕ) {u : Tally} {b : Bool} → u ≡ tally 6 (t .«nodes_taken») (t .«levels_taken») (t .left) → b ≡ leb v 3 → b ≡ false → u ≡ idleTally t v
+  pub idle-spoiled : (v : ℕ) {u : Tally} {b : Bool} → u ≡ sixTally t → b ≡ leb v 3 → b ≡ false → u ≡ idleTally t v
   unfolding idleTally
   idle-spoiled v a e y = a ∙ sym (pick-false _ _ _ (sym e ∙ y))
 
-  pub open-six : (d : Done) {u : Tally} → u ≡ tally 6 (t .«nodes_taken») (t .«levels_taken») (t .left) → d .number ≡ 6 → u ≡ openTally t d
+  pub open-six : (d : Done) {u : Tally} → u ≡ sixTally t → d .number ≡ 6 → u ≡ openTally t d
   unfolding openTally
   open-six d a z = a ∙ sym (pick-true _ _ _ (eq-eqb _ _ z))
 
-  pub open-on : (d : Done) → (d .number ≡ 6 → ⊥) → tally 0 (d .«nodes_taken») (d .«levels_taken») (t .left - 1) ≡ openTally t d
+  -- by what its exchange came to
+  open-on : (d : Done) (e : Exchange) → (d .number ≡ 6 → ⊥) → d .exchange ≡ e → nextTally t d (t .done + doneIn e) (t .failed + failedIn e) ≡ openTally t d
   unfolding openTally
-  open-on d h = sym (pick-false _ _ _ (ne-eqb _ _ h))
+  open-on d e h y = sym (pick-false _ _ _ (ne-eqb _ _ h) ∙ ap (λ (v : Exchange). nextTally t d (t .done + doneIn v) (t .failed + failedIn v)) y)
+
+  pub open-none : (d : Done) {u : Tally} → u ≡ nextTally t d (t .done) (t .failed) → d .exchange ≡ None → (d .number ≡ 6 → ⊥) → u ≡ openTally t d
+  unfolding doneIn failedIn
+  open-none d a e h = a ∙ rw (add-zero (t .done), add-zero (t .failed)) at (open-on d None h e)
+
+  pub open-done : (d : Done) {u : Tally} → u ≡ nextTally t d (t .done + 1) (t .failed) → d .exchange ≡ exchange.Done → (d .number ≡ 6 → ⊥) → u ≡ openTally t d
+  unfolding doneIn failedIn
+  open-done d a e h = a ∙ rw add-zero at (open-on d exchange.Done h e)
+
+  pub open-failed : (d : Done) {u : Tally} → u ≡ nextTally t d (t .done) (t .failed + 1) → d .exchange ≡ Failed → (d .number ≡ 6 → ⊥) → u ≡ openTally t d
+  unfolding doneIn failedIn
+  open-failed d a e h = a ∙ rw add-zero at (open-on d Failed h e)
 
   pub over-left : t .left ≡ 0 → true ≡ overOf t
   unfolding overOf
@@ -110,7 +133,10 @@ module _ (w : ℕ) (s : Settings) (t : Tally) (i : ℕ) (n g k : List ℕ) (z : 
   abbrev its : Result
   its = turn w (countedBy s t) i (areas n g k)
 
-  entry-by : ranEntry w (ranOf s t (areas n g k)) i ≡ ranBy (ranOf s t (areas n g k)) its
+  abbrev made : Exchange
+  made = exchangeAt w (turns i) (state now (areas n g k))
+
+  entry-by : ranEntry w (ranOf s t (areas n g k)) i ≡ ranBy (ranOf s t (areas n g k)) made its
   unfolding ranEntry
   entry-by = pick-false _ _ _ (ne-eqb (t .left) 0 (λ y. omega arith)) ∙ pick-true _ _ _ (eq-eqb _ _ z)
 
@@ -121,7 +147,7 @@ module _ (w : ℕ) (s : Settings) (t : Tally) (i : ℕ) (n g k : List ℕ) (z : 
       let y : firstFour w now i (length n) (length g) (length k) ≡ 0 = pick-true _ _ _ (eq-eqb _ _ r) ∙ pick-true _ 0 4 (lt-ltb i (s .workers) l) in
       here-turn w now i n g k refl y
 
-  by-six : {u : Run} → its .reply .number ≡ 6 → u ≡ run 6 (state now (areas n g k)) (t .left) → u ≡ ranEntry w (ranOf s t (areas n g k)) i
+  by-six : {u : Run} → its .reply .number ≡ 6 → u ≡ run 6 (state now (areas n g k)) (t .left) (t .done) (t .failed) → u ≡ ranEntry w (ranOf s t (areas n g k)) i
   unfolding ranBy
   by-six y e = e ∙ sym (entry-by ∙ pick-true _ _ _ (eq-eqb _ _ y))
 
@@ -148,26 +174,26 @@ module _ (w : ℕ) (s : Settings) (t : Tally) (i : ℕ) (n g k : List ℕ) (z : 
       true-false (sym v ∙ y)
 
   pub entry-open : {u : Tally} {d : Done} {b : Areas} {m : Settings} → u ≡ openTally t d → did d b ≡ didHere w m i (areas n g k) → m ≡ now → 1 ≤ kindNo (headAt w k i .kind) → ranOf s u b ≡ ranEntry w (ranOf s t (areas n g k)) i
-  unfolding openTally ranBy didBy doneOf
+  unfolding openTally ranBy didOf turnDone exchangeAt
   entry-open {u} {d} {b} {m} f e p o = by (ℕ-discrete (its .reply .number) 6)
     where
       x : turnHere w m i (areas n g k) ≡ its
       x = ap (λ (y : Settings). turnHere w y i (areas n g k)) p ∙ turn-is
 
-      did-is : did d b ≡ did (doneOf (its .reply)) (its .areas)
-      did-is = e ∙ ap didBy x
+      did-is : did d b ≡ did (turnDone (its .reply .number) (its .reply .settings) made) (its .areas)
+      did-is = e ∙ ap (didOf (exchangeOf w (recordOf w (areas n g k) i) (memory n g))) x
 
       by : Dec (its .reply .number ≡ 6) → ranOf s u b ≡ ranEntry w (ranOf s t (areas n g k)) i
       by (yes y) =
           let c : d .number ≡ 6 = ap (λ (v : Did). v .done .number) did-is ∙ y in
           let a : b ≡ areas n g k = ap (λ (v : Did). v .areas) did-is ∙ ap (λ (v : State). v .areas) (six-leaves w now i (areas n g k) y) in
-          by-six y (ap (λ (v : Tally). ranOf s v b) (f ∙ pick-true _ _ _ (eq-eqb _ _ c)) ∙ ap (λ (v : Areas). run 6 (state now v) (t .left)) a)
+          by-six y (ap (λ (v : Tally). ranOf s v b) (f ∙ pick-true _ _ _ (eq-eqb _ _ c)) ∙ ap (λ (v : Areas). run 6 (state now v) (t .left) (t .done) (t .failed)) a)
       by (no y) =
           let c : d .number ≡ its .reply .number = ap (λ (v : Did). v .done .number) did-is in
           let q = same-sizes s (its .reply .settings) _ _ (sizes-stay w (state now (areas n g k)) i) in
           ap (λ (v : Tally). ranOf s v b) (f ∙ pick-false _ _ _ (ne-eqb (d .number) 6 (λ v. y (sym c ∙ v))))
-          ∙ ap (λ (v : Did). run 0 (state (counted s (v .done .«nodes_taken») (v .done .«levels_taken»)) (v .areas)) (t .left - 1)) did-is
-          ∙ ap (λ (v : Settings). run 0 (state v (its .areas)) (t .left - 1)) (counted-is s (its .reply .settings) q)
+          ∙ ap (λ (v : Did). ranOf s (nextTally t (v .done) (t .done + doneIn (v .done .exchange)) (t .failed + failedIn (v .done .exchange))) (v .areas)) did-is
+          ∙ ap (λ (v : Settings). run 0 (state v (its .areas)) (t .left - 1) (t .done + doneIn made) (t .failed + failedIn made)) (counted-is s (its .reply .settings) q)
           ∙ sym (entry-by ∙ pick-false _ _ _ (ne-eqb (its .reply .number) 6 y) ∙ pick-false _ _ _ (ne-eqb (its .reply .number) 8 (not-eight o)))
 
 -- where a list begins
@@ -176,11 +202,11 @@ module _ (s : Settings) (limit : ℕ) (n g k : List ℕ) where
   unfolding counted
   begin-is = refl
 
-  pub begin-three : firstThree 3 s (length n) (length g) (length k) ≡ 0 → Three 3 (s .workers) (state (countedBy s (tally 0 (s .«nodes_taken») (s .«levels_taken») limit)) (areas n g k))
+  pub begin-three : firstThree 3 s (length n) (length g) (length k) ≡ 0 → Three 3 (s .workers) (state (countedBy s (tally 0 (s .«nodes_taken») (s .«levels_taken») limit 0 0)) (areas n g k))
   begin-three e = rw begin-is (three-of 3 s n g k e)
 
-  pub begin-list : (l : List ℕ) → ranList 3 l (ranOf s (tally 0 (s .«nodes_taken») (s .«levels_taken») limit) (areas n g k)) ≡ ranList 3 l (run 0 (state s (areas n g k)) limit)
-  begin-list l = ap (λ (x : Settings). ranList 3 l (run 0 (state x (areas n g k)) limit)) begin-is
+  pub begin-list : (l : List ℕ) → ranList 3 l (ranOf s (tally 0 (s .«nodes_taken») (s .«levels_taken») limit 0 0) (areas n g k)) ≡ ranList 3 l (run 0 (state s (areas n g k)) limit 0 0)
+  begin-list l = ap (λ (x : Settings). ranList 3 l (run 0 (state x (areas n g k)) limit 0 0)) begin-is
 
 -- an entry's turn has what it requires
 module _ (s : Settings) (t : Tally) (i n g k : ℕ) where
@@ -191,18 +217,22 @@ module _ (s : Settings) (t : Tally) (i n g k : ℕ) where
   unfolding counted
   entry-inside f h = three-inside (countedBy s t) i n g k f h
 
--- an entry leaves questions 1 to 3 answered yes
-ran-keeps : (w : ℕ) {workers : ℕ} (u : Run) (i : ℕ) → Three w workers (u .state′) → Three w workers (ranEntry w u i .state′)
+-- what holds of where a list stands, and after a turn done, holds after an entry
+ran-both : (P : Run → Type 0) (w : ℕ) (u : Run) (i : ℕ) → P u → P (run 6 (u .state′) (u .left) (u .done) (u .failed)) → (u .left ≢ 0 → P (run 0 (after (turn w (u .state′ .settings) i (u .state′ .areas))) (u .left - 1) (u .done + doneIn (exchangeAt w (turns i) (u .state′))) (u .failed + failedIn (exchangeAt w (turns i) (u .state′))))) → P (ranEntry w u i)
 unfolding ranEntry ranBy
-ran-keeps w {workers} u i y =
-    pick-both (λ (v : Run). Three w workers (v .state′)) _
-    (λ e. y)
-    (λ e. pick-both (λ (v : Run). Three w workers (v .state′)) _
-    (λ f. pick-both (λ (v : Run). Three w workers (v .state′)) _ (λ p. y) (λ p. pick-both (λ (v : Run). Three w workers (v .state′)) _ (λ q. y) (λ q. three-stays w (u .state′) i y)))
-    (λ f. y))
+ran-both P w u i stays six done =
+    pick-both P _ (λ e. stays)
+    (λ e. pick-both P _ (λ f. pick-both P _ (λ p. six) (λ p. pick-both P _ (λ q. stays) (λ q. done (eqb-false _ _ e)))) (λ f. stays))
 
+-- an entry leaves questions 1 to 3 answered yes
 pub entry-keeps : (w : ℕ) {workers : ℕ} (s : Settings) (t u : Tally) (i : ℕ) (a b : Areas) → ranOf s u b ≡ ranEntry w (ranOf s t a) i → Three w workers (state (countedBy s t) a) → Three w workers (state (countedBy s u) b)
-entry-keeps w {workers} s t u i a b e y = subst (λ (v : Run). Three w workers (v .state′)) (sym e) (ran-keeps w (ranOf s t a) i y)
+entry-keeps w {workers} s t u i a b e y = subst (λ (v : Run). Three w workers (v .state′)) (sym e) (ran-both (λ (v : Run). Three w workers (v .state′)) w (ranOf s t a) i y y (λ z. three-stays w (state (countedBy s t) a) i y))
+
+-- the exchanges counted and the turns left do not grow: a turn makes at most one exchange
+pub entry-fits : (w m : ℕ) (s : Settings) (t u : Tally) (i : ℕ) (a b : Areas) → ranOf s u b ≡ ranEntry w (ranOf s t a) i → t .done + t .failed + t .left ≤ m → u .done + u .failed + u .left ≤ m
+entry-fits w m s t u i a b e y =
+    let Fits : Run → Type 0 = λ v. v .done + v .failed + v .left ≤ m in
+    subst Fits (sym e) (ran-both Fits w (ranOf s t a) i y y (λ z. let k = one-exchange (exchangeAt w (turns i) (state (countedBy s t) a)) in omega arith))
 
 -- the entries of a list
 pub list-more : (w : ℕ) (l : List ℕ) (k : ℕ) (u : Run) {i : ℕ} {v x : Run} → v ≡ ranEntry w u i → i ≡ getD l k 0 → ranList w (drop k l) u ≡ x → k < length l → ranList w (drop (k + 1) l) v ≡ x
@@ -273,27 +303,23 @@ module _ (w : ℕ) (s : Settings) (l : List ℕ) (limit : ℕ) (n g k : List ℕ
   unfolding listQuestions firstThree
   list-first = by-three _ _ _ _
 
-  list-no : {q : ℕ} → firstNo (listQuestions w s l (areas n g k)) ≡ q → q ≢ 0 → refused q s (areas n g k) ≡ turns w s l limit (areas n g k)
-  unfolding turns unlessRefused
-  list-no {q} e z = ap (λ (y : ℕ). refused y s (areas n g k)) (sym e) ∙ sym (pick-false _ _ _ (ne-eqb _ _ (λ y. z (sym e ∙ y))))
+  -- a list that is refused has no turns of its own
+  list-no : {r : Listed} {p : Reply} {q : ℕ} → r ≡ reported p 0 0 → p ≡ reply q Nothing 0 s → firstNo (listQuestions w s l (areas n g k)) ≡ q → q ≢ 0 → report (result (r .reply) (areas n g k)) (r .done) (r .failed) ≡ listReport w s l limit (areas n g k)
+  unfolding listReport many.turns unlessRefused eventsOf total pick
+  list-no a c e z =
+      let b : eqb (firstNo (listQuestions w s l (areas n g k))) 0 ≡ false = ne-eqb _ _ (λ y. z (sym e ∙ y)) in
+      rw (a, c, b) (ap (λ (y : ℕ). report (refused y s (areas n g k)) 0 0) (sym e))
 
-  pub turns-refused : {r : Reply} {q : ℕ} → r ≡ reply q Nothing 0 s → q ≡ firstThree w s (length n) (length g) (length k) → (q ≡ 0 → ⊥) → result r (areas n g k) ≡ turns w s l limit (areas n g k)
-  turns-refused a e z =
-      ap (λ (y : Reply). result y (areas n g k)) a
-      ∙ list-no (list-first ∙ pick-false _ _ _ (ne-eqb _ _ (λ y. z (e ∙ y))) ∙ sym e) z
+  pub turns-refused : {r : Listed} {p : Reply} {q : ℕ} → r ≡ reported p 0 0 → p ≡ reply q Nothing 0 s → q ≡ firstThree w s (length n) (length g) (length k) → (q ≡ 0 → ⊥) → report (result (r .reply) (areas n g k)) (r .done) (r .failed) ≡ listReport w s l limit (areas n g k)
+  turns-refused a c e z = list-no a c (list-first ∙ pick-false _ _ _ (ne-eqb _ _ (λ y. z (e ∙ y))) ∙ sym e) z
 
-  pub turns-four : {r : Reply} {q : ℕ} {b : Bool} → r ≡ reply 4 Nothing 0 s → b ≡ every (λ i. ltb i (s .workers)) l → b ≡ false → q ≡ firstThree w s (length n) (length g) (length k) → q ≡ 0 → result r (areas n g k) ≡ turns w s l limit (areas n g k)
+  pub turns-four : {r : Listed} {p : Reply} {q : ℕ} {b : Bool} → r ≡ reported p 0 0 → p ≡ reply 4 Nothing 0 s → b ≡ every (λ i. ltb i (s .workers)) l → b ≡ false → q ≡ firstThree w s (length n) (length g) (length k) → q ≡ 0 → report (result (r .reply) (areas n g k)) (r .done) (r .failed) ≡ listReport w s l limit (areas n g k)
   unfolding question4All question4
-  turns-four a f y e z =
-      ap (λ (y : Reply). result y (areas n g k)) a
-      ∙ list-no (list-first ∙ pick-true _ _ _ (eq-eqb _ _ (sym e ∙ z)) ∙ pick-false _ _ _ (sym f ∙ y)) (λ y. omega arith)
+  turns-four a c f y e z = list-no a c (list-first ∙ pick-true _ _ _ (eq-eqb _ _ (sym e ∙ z)) ∙ pick-false _ _ _ (sym f ∙ y)) (λ y. omega arith)
 
-  pub turns-done : (t : Tally) {r : Reply} {x : Areas} {q : ℕ} {b : Bool} → r ≡ reply (t .number) Nothing (limit - t .left) (countedBy s t) → ranOf s t x ≡ ranList w l (run 0 (state s (areas n g k)) limit) → b ≡ every (λ i. ltb i (s .workers)) l → b ≡ true → q ≡ firstThree w s (length n) (length g) (length k) → q ≡ 0 → result r x ≡ turns w s l limit (areas n g k)
-  unfolding turns unlessRefused ranResult question4All question4
-  turns-done t {r} {x} {q} {b} a p f y e z =
+  pub turns-done : (t : Tally) {r : Listed} {p : Reply} {x : Areas} {q : ℕ} {b : Bool} → r ≡ reported p (t .done) (t .failed) → p ≡ reply (t .number) Nothing (limit - t .left) (countedBy s t) → ranOf s t x ≡ ranList w l (run 0 (state s (areas n g k)) limit 0 0) → b ≡ every (λ i. ltb i (s .workers)) l → b ≡ true → q ≡ firstThree w s (length n) (length g) (length k) → q ≡ 0 → report (result (r .reply) x) (r .done) (r .failed) ≡ listReport w s l limit (areas n g k)
+  unfolding listReport many.turns unlessRefused eventsOf ranReport question4All question4 pick
+  turns-done t a c o f y e z =
       let y₃ = three-yes w s (length n) (length g) (length k) (sym e ∙ z) in
-      let c : ranResult limit (ranList w l (run 0 (state s (areas n g k)) limit)) ≡ turnsResult w (state s (areas n g k)) (visits w l limit (state s (areas n g k))) =
-      list-cut w s l limit (areas n g k) (y₃ .0) (y₃ .1) (y₃ .2) (sym f ∙ y)
-      in
-      let i : firstNo (listQuestions w s l (areas n g k)) ≡ 0 = list-first ∙ pick-true _ _ _ (eq-eqb _ _ (sym e ∙ z)) ∙ pick-true _ _ _ (sym f ∙ y) in
-      ap (λ (u : Reply). result u x) a ∙ ap (ranResult limit) p ∙ c ∙ sym (pick-true _ _ _ (eq-eqb _ _ i))
+      let i : eqb (firstNo (listQuestions w s l (areas n g k))) 0 ≡ true = eq-eqb _ _ (list-first ∙ pick-true _ _ _ (eq-eqb _ _ (sym e ∙ z)) ∙ pick-true _ _ _ (sym f ∙ y)) in
+      rw (a, c, i) (ap (ranReport limit) o ∙ list-cut w s l limit (areas n g k) (y₃ .0) (y₃ .1) (y₃ .2) (sym f ∙ y))

@@ -1,6 +1,6 @@
 -- The parts in which the code carries out a list of turns. They follow the code's cut and are tied to the operation's definition by
 -- lemmas. Relies on rules for the operations.
-use Prim.Native.Nat.{ℕ, _-_}
+use Prim.Native.Nat.{ℕ, _+_, _-_}
 use mathlib.Core.Bool.{Bool, true, false}
 use mathlib.Core.List.{List, [], _∷_}
 use lib.Dec.{eqb, leb}
@@ -9,62 +9,76 @@ use Rattle.settings.specs.Cut.{counted}
 use Rattle.settings.specs.declared.Settings.{Settings}
 use Rattle.areas.specs.Memory.{Areas}
 use Rattle.record.specs.declared.Answer.the-variants.{Nothing}
+use Rattle.record.specs.declared.Exchange.{Exchange}
 use Rattle.record.specs.declared.Head.{Head}
 use Rattle.record.specs.declared.Reply.{Reply}
 use Rattle.record.specs.Kinds.{kindNo}
 use Rattle.rules.specs.Operations.{Result, result, reply, turn, lastOf}
 use Rattle.rules.specs.Lists.{State, state, after}
+use Rattle.rules.specs.Calls.{turns}
+use Rattle.rules.specs.Exchanges.{exchangeAt, doneIn, failedIn, Report, report}
 use Rattle.turns.specs.declared.Done.{Done}
 use Rattle.lists.specs.declared.Tally.{Tally}
+use Rattle.lists.specs.declared.Listed.{Listed}
 
--- where a list of turns stands: 0 or 6, the state, and the turns that may still be done
+-- where a list of turns stands: 0 or 6, the state, the turns that may still be done, and the exchanges done and failed
 pub record Run : Type 0 where
   pub number : ℕ
   pub state′ : State
   pub left : ℕ
+  pub done : ℕ
+  pub failed : ℕ
 
-abbrev pub run : ℕ → State → ℕ → Run
-run n x l = record { number = n; state′ = x; left = l }
+abbrev pub run : ℕ → State → ℕ → ℕ → ℕ → Run
+run n x l d f = record { number = n; state′ = x; left = l; done = d; failed = f }
 
--- after one entry of the list, with l turns left behind it and the turn's result
-unfoldable pub ranBy : Run → Result → Run
-ranBy u r =
+-- after one entry of the list, with the turn's exchange and its result
+unfoldable pub ranBy : Run → Exchange → Result → Run
+ranBy u e r =
     pick (eqb (r .reply .number) 6)
-    (run 6 (u .state′) (u .left))
-    (pick (eqb (r .reply .number) 8) u (run 0 (after r) (u .left - 1)))
+    (run 6 (u .state′) (u .left) (u .done) (u .failed))
+    (pick (eqb (r .reply .number) 8) u (run 0 (after r) (u .left - 1) (u .done + doneIn e) (u .failed + failedIn e)))
 
 unfoldable pub ranEntry : ℕ → Run → ℕ → Run
 ranEntry w u i =
     pick (eqb (u .left) 0) u
-    (pick (eqb (u .number) 0) (ranBy u (turn w (u .state′ .settings) i (u .state′ .areas))) u)
+    (pick (eqb (u .number) 0) (ranBy u (exchangeAt w (turns i) (u .state′)) (turn w (u .state′ .settings) i (u .state′ .areas))) u)
 
 unfoldable pub ranList : ℕ → List ℕ → Run → Run
 ranList w [] u = u
 ranList w (i ∷ l) u = ranList w l (ranEntry w u i)
 
 -- what a list of turns with this limit gives where the code stands at its end
-unfoldable pub ranResult : ℕ → Run → Result
-ranResult limit u = result (reply (u .number) Nothing (limit - u .left) (u .state′ .settings)) (u .state′ .areas)
+unfoldable pub ranReport : ℕ → Run → Report
+ranReport limit u = report (result (reply (u .number) Nothing (limit - u .left) (u .state′ .settings)) (u .state′ .areas)) (u .done) (u .failed)
 
 -- the list's settings with the counts of the code's tally, and the tally with the areas
 abbrev pub countedBy : Settings → Tally → Settings
 countedBy s t = counted s (t .«nodes_taken») (t .«levels_taken»)
 
 abbrev pub ranOf : Settings → Tally → Areas → Run
-ranOf s t a = run (t .number) (state (countedBy s t) a) (t .left)
+ranOf s t a = run (t .number) (state (countedBy s t) a) (t .left) (t .done) (t .failed)
 
--- the tally after an idle worker's entry, and after a turn
-abbrev pub tally : ℕ → ℕ → ℕ → ℕ → Tally
-tally n i g l = record { number = n; «nodes_taken» = i; «levels_taken» = g; left = l }
+-- a tally by its parts
+abbrev pub tally : ℕ → ℕ → ℕ → ℕ → ℕ → ℕ → Tally
+tally n i g l d f = record { number = n; «nodes_taken» = i; «levels_taken» = g; left = l; done = d; failed = f }
+
+-- the tally after a 6, after an idle worker's entry, after a turn that was done, and after any turn of a worker with a call open
+abbrev pub sixTally : Tally → Tally
+sixTally t = tally 6 (t .«nodes_taken») (t .«levels_taken») (t .left) (t .done) (t .failed)
 
 unfoldable pub idleTally : Tally → ℕ → Tally
-idleTally t answer = pick (leb answer 3) t (tally 6 (t .«nodes_taken») (t .«levels_taken») (t .left))
+idleTally t answer = pick (leb answer 3) t (sixTally t)
+
+abbrev pub nextTally : Tally → Done → ℕ → ℕ → Tally
+nextTally t d done failed = tally 0 (d .«nodes_taken») (d .«levels_taken») (t .left - 1) done failed
 
 unfoldable pub openTally : Tally → Done → Tally
-openTally t d =
-    pick (eqb (d .number) 6)
-    (tally 6 (t .«nodes_taken») (t .«levels_taken») (t .left))
-    (tally 0 (d .«nodes_taken») (d .«levels_taken») (t .left - 1))
+openTally t d = pick (eqb (d .number) 6) (sixTally t) (nextTally t d (t .done + doneIn (d .exchange)) (t .failed + failedIn (d .exchange)))
+
+-- what a list gives, by its parts
+abbrev pub reported : Reply → ℕ → ℕ → Listed
+reported r d f = record { reply = r; done = d; failed = f }
 
 -- whether a list goes no further
 unfoldable pub overOf : Tally → Bool

@@ -2,7 +2,7 @@
 // Relies on turns for the turn of a worker, on settings for questions 1 to 3, which are asked once a list.
 ghost use mathlib.Core.Path.{_≡_};
 ghost use mathlib.Core.Bool.{true};
-ghost use Prim.Native.Nat.{_-_, _≤_, _<_};
+ghost use Prim.Native.Nat.{_+_, _-_, _≤_, _<_};
 ghost use lib.Dec.{ltb};
 ghost use lib.ListN.{length};
 ghost use Rattle.words.specs.Choice.{every};
@@ -12,9 +12,11 @@ ghost use Rattle.record.specs.Kinds.{kindNo};
 ghost use Rattle.record.specs.Layout.{headAt};
 ghost use Rattle.rules.specs.Operations.{result, reply, turn};
 ghost use Rattle.table.specs.Cut.{firstFour};
-ghost use Rattle.rules.specs.Lists.{state, turns};
-ghost use Rattle.lists.specs.Cut.{run, countedBy, ranOf, tally, idleTally, openTally, overOf, ranEntry, ranList, numberBy, oneReply};
+ghost use Rattle.rules.specs.Lists.{state};
+ghost use Rattle.rules.specs.Exchanges.{report, listReport};
+ghost use Rattle.lists.specs.Cut.{run, countedBy, ranOf, sixTally, idleTally, openTally, nextTally, overOf, ranEntry, ranList, reported, numberBy, oneReply};
 use record::Answer;
+use record::Exchange;
 use record::Head;
 use record::Reply;
 use record::answer_at;
@@ -31,23 +33,35 @@ use turns::open_here;
 use words::and;
 use words::lt;
 
-// Where a list of turns stands: 0 or 6, nodes taken, levels taken, and the turns that may still be done. A turn changes no other setting.
+// Where a list of turns stands: 0 or 6, nodes taken, levels taken, the turns that may still be done, and the exchanges done and failed. A turn changes no
+// other setting.
 pub struct Tally {
     pub number: u32,
     pub nodes_taken: u32,
     pub levels_taken: u32,
     pub left: u32,
+    pub done: u32,
+    pub failed: u32,
+}
+
+// What a list of turns gives: its reply, and how many exchanges of its own turns were done and failed.
+pub struct Listed {
+    pub reply: Reply,
+    pub done: u32,
+    pub failed: u32,
 }
 
 // The tally after a 6: nothing else has changed.
 fn ended_six(t: Tally) -> Tally
-    ensures { λ u. ⌜ u ≡ tally 6 (t .«nodes_taken») (t .«levels_taken») (t .left) ⌝ }
+    ensures { λ u. ⌜ u ≡ sixTally t ⌝ }
 {
     Tally {
         number: 6,
         nodes_taken: t.nodes_taken,
         levels_taken: t.levels_taken,
         left: t.left,
+        done: t.done,
+        failed: t.failed,
     }
 }
 
@@ -58,19 +72,35 @@ fn idle_entry(t: Tally, answer: u32) -> Tally
     if idle_fits(answer) { t } else { ended_six(t) }
 }
 
+// The tally after a turn that was done, with the exchanges counted.
+fn next_tally(t: Tally, d: Done, done: u32, failed: u32) -> Tally
+    requires { ⌜ 1 ≤ t .left ⌝ }
+    ensures { λ u. ⌜ u ≡ nextTally t d done failed ⌝ }
+{
+    Tally {
+        number: 0,
+        nodes_taken: d.nodes_taken,
+        levels_taken: d.levels_taken,
+        left: t.left - 1,
+        done: done,
+        failed: failed,
+    }
+}
+
 // The tally after the turn of a worker with a call open: ended by a 6, else one turn less is left.
 fn tallied(t: Tally, d: Done) -> Tally
     requires { ⌜ 1 ≤ t .left ⌝ }
+    requires { ⌜ t .done + t .failed + t .left ≤ 4294967295 ⌝ }
     ensures { λ u. ⌜ u ≡ openTally t d ⌝ }
 {
     if d.number == 6 {
         ended_six(t)
     } else {
-        Tally {
-            number: 0,
-            nodes_taken: d.nodes_taken,
-            levels_taken: d.levels_taken,
-            left: t.left - 1,
+        let e = d.exchange;
+        match e {
+            Exchange::None => next_tally(t, d, t.done, t.failed),
+            Exchange::Done => next_tally(t, d, t.done + 1, t.failed),
+            Exchange::Failed => next_tally(t, d, t.done, t.failed + 1),
         }
     }
 }
@@ -85,6 +115,7 @@ fn open_entry(
     workers: &mut [u32],
 ) -> Tally
     requires { ⌜ 1 ≤ t .left ⌝ }
+    requires { ⌜ t .done + t .failed + t .left ≤ 4294967295 ⌝ }
     requires { ⌜ t .number ≡ 0 ⌝ }
     requires { ⌜ firstThree 3 (countedBy s t) (length (now nodes)) (length (now levels)) (length (now workers)) ≡ 0 ⌝ }
     requires { ⌜ i < s .workers ⌝ }
@@ -106,6 +137,7 @@ fn entry(
     workers: &mut [u32],
 ) -> Tally
     requires { ⌜ 1 ≤ t .left ⌝ }
+    requires { ⌜ t .done + t .failed + t .left ≤ 4294967295 ⌝ }
     requires { ⌜ t .number ≡ 0 ⌝ }
     requires { ⌜ firstThree 3 (countedBy s t) (length (now nodes)) (length (now levels)) (length (now workers)) ≡ 0 ⌝ }
     requires { ⌜ i < s .workers ⌝ }
@@ -159,13 +191,15 @@ fn run_list(
 ) -> Tally
     requires { ⌜ firstThree 3 s (length (now nodes)) (length (now levels)) (length (now workers)) ≡ 0 ⌝ }
     requires { ⌜ every (λ i. ltb i (s .workers)) (now list) ≡ true ⌝ }
-    ensures { λ u. ⌜ ranOf s u (areas (now (nodes .exit)) (now (levels .exit)) (now (workers .exit))) ≡ ranList 3 (now (list .entry)) (run 0 (state s (areas (now (nodes .entry)) (now (levels .entry)) (now (workers .entry)))) limit) ⌝ }
+    ensures { λ u. ⌜ ranOf s u (areas (now (nodes .exit)) (now (levels .exit)) (now (workers .exit))) ≡ ranList 3 (now (list .entry)) (run 0 (state s (areas (now (nodes .entry)) (now (levels .entry)) (now (workers .entry)))) limit 0 0) ⌝ }
 {
     let mut t = Tally {
         number: 0,
         nodes_taken: s.nodes_taken,
         levels_taken: s.levels_taken,
         left: limit,
+        done: 0,
+        failed: 0,
     };
     let mut k = 0;
     while k < list.len() {
@@ -198,7 +232,17 @@ fn ended_list(s: Settings, t: Tally, limit: u32) -> Reply
     }
 }
 
-// A list of turns with its limit: one byte an entry, its worker.
+fn reported(r: Reply, done: u32, failed: u32) -> Listed
+    ensures { λ l. ⌜ l ≡ reported r done failed ⌝ }
+{
+    Listed {
+        reply: r,
+        done: done,
+        failed: failed,
+    }
+}
+
+// A list of turns with its limit: one byte an entry, its worker. A list that is refused has no turns of its own.
 pub fn turns(
     s: Settings,
     list: &[u8],
@@ -206,19 +250,19 @@ pub fn turns(
     nodes: &mut [u32],
     levels: &mut [u32],
     workers: &mut [u32],
-) -> Reply
-    ensures { λ r. ⌜ result r (areas (now (nodes .exit)) (now (levels .exit)) (now (workers .exit))) ≡ turns 3 s (now (list .entry)) limit (areas (now (nodes .entry)) (now (levels .entry)) (now (workers .entry))) ⌝ }
+) -> Listed
+    ensures { λ r. ⌜ report (result (r .reply) (areas (now (nodes .exit)) (now (levels .exit)) (now (workers .exit)))) (r .done) (r .failed) ≡ listReport 3 s (now (list .entry)) limit (areas (now (nodes .entry)) (now (levels .entry)) (now (workers .entry))) ⌝ }
 {
     let q = s.refused(nodes.len(), levels.len(), workers.len());
     if q == 0 {
         if all_below(list, s.workers) {
             let t = run_list(s, list, limit, nodes, levels, workers);
-            ended_list(s, t, limit)
+            reported(ended_list(s, t, limit), t.done, t.failed)
         } else {
-            refusal(4, s)
+            reported(refusal(4, s), 0, 0)
         }
     } else {
-        refusal(q, s)
+        reported(refusal(q, s), 0, 0)
     }
 }
 

@@ -55,6 +55,13 @@ pub enum Answer {
     Open,
 }
 
+// What a turn's exchange came to. None: the turn makes no exchange.
+pub enum Exchange {
+    None,
+    Done,
+    Failed,
+}
+
 // What an operation gives back. The number is 0 where it was carried out, else that of the refusal.
 pub struct Reply {
     pub number: u32,

@@ -27,6 +27,8 @@ use Rattle.trie.proofs.Stand.{at-node}
 use Rattle.trie.proofs.Search.{word}
 use Rattle.trie.proofs.Move.{Frame, gather}
 use Rattle.trie.proofs.Falls.{close-falls}
+use Rattle.trie.proofs.Dooms.{succeeds}
+use Rattle.trie.proofs.Advance.{dooming-done}
 use Rattle.trie.proofs.Levels.{levels-close}
 use Rattle.trie.proofs.Whole.{moving, Worker, Inv, owner}
 use Rattle.trie.proofs.Turns as turns
@@ -52,7 +54,7 @@ module _ {w : ℕ} {s₀ s : Settings} {m : Memory} {W : WorldOf w s₀} {ws : �
   digit′ = digit (dims w (s₀ .limit)) K (W .tree .depth H)
 
   -- the Moves around it, and what the theory makes of the exchange
-  module _ {vs : List Move} {fs : List Frame} (js : Frames vs fs) (can : word W K H (at-node R C) ≡ levelRef H → CanClose W H digit′ G × (length (W .chain H digit′) ≡ s₀ .limit)) (steps : word W K H (at-node R C) ≡ levelRef H → Inv (close W H digit′ G (owner i)) (upd ws i (turns.does (turns.withLevel (ws i) 0) (moving begun fs gather)))) where
+  module _ {vs : List Move} {fs : List Frame} (js : Frames vs fs) (can : word W K H (at-node R C) ≡ levelRef H → CanClose W H digit′ G × (length (W .chain H digit′) ≡ s₀ .limit)) (steps : word W K H (at-node R C) ≡ levelRef H → Inv (close W H digit′ G (owner i)) (upd ws i (turns.does (turns.withLevel (ws i) 0) (moving begun fs gather)))) (succeeded : word W K H (at-node R C) ≡ levelRef H → succeeds W (ws i .key) (ws i .act) ≢ 0) where
     -- the level in hand is one of the table's
     room : G < levelCount w s₀
     room = omega (arith, a .table .levels-le, owned-taken (a .table .levels-fresh) G (level-owned a hand))
@@ -72,6 +74,7 @@ module _ {w : ℕ} {s₀ s : Settings} {m : Memory} {W : WorldOf w s₀} {ws : �
           matches = record { pixel-is = a .matches .pixel-is; node-is = a .matches .node-is; level-is = refl; doing = moves refl (more (framed-new (r .head .level) G H K (o .level-is)) js) gathers };
           rowing = goes (close-grows S (can q .0) (owner i)) refl still-moving refl refl;
           falls = λ y. close-falls S (levelCount w s₀) (owner i) (can q .0) room (rw upd-same at (steps q .each i .acts));
+          dooming = dooming-done (ws i .key) (succeeded q) refl;
           held = keeps (a .table .nodes-fresh) refl;
         }
 

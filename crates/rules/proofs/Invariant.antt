@@ -23,6 +23,7 @@ use Rattle.trie.proofs.Fresh.{Fresh}
 use Rattle.trie.proofs.Stand.{Pos}
 use Rattle.trie.proofs.Search.{fetch}
 use Rattle.trie.proofs.Falls.{Falls}
+use Rattle.trie.proofs.Advance.{Dooming}
 use Rattle.trie.proofs.Levels.{Levels}
 use Rattle.trie.proofs.Whole.{idle, searching, Worker, Inv}
 use Rattle.rules.proofs.Dims.{dims, Width}
@@ -82,6 +83,8 @@ pub record TurnOk (w : ℕ) (s₀ : Settings) (W : WorldOf w s₀) (ws : ℕ →
   pub rowing : Rowing W world (ws i) worker (t .answer)
   -- a turn after which the call goes on leaves less to do
   pub falls : worker .act ≢ idle → Falls (levelCount w s₀) W world (ws i .act) (worker .act)
+  -- a failed exchange frees a doomed worker, and only a done one dooms others
+  pub dooming : Dooming W world (ws i .key) (ws i .act) (worker .act)
   pub held : Held W (ws i) (worker .node) (t .settings .«nodes_taken») (t .answer)
 
 -- the state between two operations

@@ -69,6 +69,11 @@ pub mod AloneAnswers
 pub mod AloneNext
 pub mod Flat
 pub mod CallsAlone
+pub mod Exchanges
+pub mod ExchangeCounts
+pub mod ExchangeEvents
+pub mod ExchangeSums
+pub mod ExchangeBound
 pub mod Tells
 pub mod LastAnswers
 pub mod OpenCalls
@@ -85,3 +90,4 @@ pub mod Openings
 pub mod Three
 pub mod Entries
 pub mod ListEnds
+pub mod OwnExchange

@@ -25,6 +25,8 @@ use Rattle.trie.proofs.Move.{Frame, edge, aim, aims, last-placed, last-cell}
 use Rattle.trie.proofs.MoveTurns.{can-aim}
 use Rattle.trie.proofs.Redirect.{redirect, redirect-grows}
 use Rattle.trie.proofs.MoveFalls.{aim-falls}
+use Rattle.trie.proofs.Dooms.{redirect-keeps-ends}
+use Rattle.trie.proofs.Advance.{dooming-kept}
 use Rattle.trie.proofs.Whole.{Worker, ActOk, is-moving, moving, owner}
 use Rattle.trie.proofs.Turns.{aim-turn}
 use Rattle.rules.proofs.Matches.{Framed, Frames, more, entry, peeks}
@@ -49,5 +51,5 @@ module _ {w : ℕ} {s₀ s : Settings} {m : Memory} {W : WorldOf w s₀} {ws : �
       moves-on a W′ (redirect-grows S (can-aim S pre N k j) (W .mover)) refl
       (table-with (a .table) (setCell w m (Next (lastNode v)) (levelRef (h .level))) W′ (rw (last-is on pre N n, l) x) (a .table .nodes-fresh) (a .table .levels-fresh))
       (aim-turn (a .inv) i (is-moving small b (aims pre k n o j c)))
-      (rw now (aim-falls S (levelCount w s₀) k c (redirect-grows S (can-aim S pre N k j) (W .mover)) refl))
+      (rw now (record { falls = aim-falls S (levelCount w s₀) k c (redirect-grows S (can-aim S pre N k j) (W .mover)) refl; dooming = dooming-kept (ws i .key) (redirect-keeps-ends S (can-aim S pre N k j .closed) (levelRef T) (W .mover)) refl }))
       (next-set (peek T at-entry) (peeks l entry)) (more on js)

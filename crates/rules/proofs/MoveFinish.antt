@@ -29,6 +29,8 @@ use Rattle.trie.proofs.MoveTurns.{frame-published}
 use Rattle.trie.proofs.MoveEnd.{Finished, search-on, set-into, finish-can, finish-next}
 use Rattle.trie.proofs.Turns.{finish-step}
 use Rattle.trie.proofs.MoveFalls.{search-falls, outer-falls}
+use Rattle.trie.proofs.Dooms.{EndsKept, redirect-keeps-ends}
+use Rattle.trie.proofs.Advance.{dooming-kept}
 use Rattle.trie.proofs.Whole.{Worker, ActOk, is-searching, is-moving, searching, moving, owner}
 use Rattle.rules.proofs.Matches.{Framed, Frames, none, more, entry, peeks, searches}
 use Rattle.rules.proofs.Invariant.{WorldOf, Table, At, TurnOk}
@@ -59,6 +61,9 @@ module _ {w : ℕ} {s₀ s : Settings} {m : Memory} {W : WorldOf w s₀} {ws : �
       grows : Grows W W′
       grows = redirect-grows S (finish-can S k) (upd (W .mover) (f .child) 0)
 
+      kept : EndsKept W W′
+      kept = redirect-keeps-ends S (finish-can S k .closed) (levelRef (f .child)) (upd (W .mover) (f .child) 0)
+
       table : Table w s₀ s m′ W′
       table =
           table-with (a .table) m′ W′
@@ -68,7 +73,7 @@ module _ {w : ℕ} {s₀ s : Settings} {m : Memory} {W : WorldOf w s₀} {ws : �
       by : {vs : List Move} {gs : List Frame} → Frames vs gs → Around W (owner i) (ws i .key) (f .home) (f .key) (f .child) gs → ws i .act ≡ moving f gs finish → Finished W′ (owner i) (ws i .key) (ws i .since) f gs → TurnOk w s₀ W ws i (going s (afterMove h (v .child) vs) vs m′)
       by none d q (search-on l) =
           acted a W′ (searching (peek (f .child) at-entry)) still-searching grows refl table (finish-step (a .inv) i k (searching (peek (f .child) at-entry)) (is-searching small b l))
-          (rw q (search-falls S (levelCount w s₀) k refl))
+          (rw q (record { falls = search-falls S (levelCount w s₀) k refl; dooming = dooming-kept (ws i .key) kept refl }))
           (call-level Look (v .child) h) (searches refl refl (peeks (on .child-is) entry))
       by (more {f = g} {fs = gs} j ks) d q (set-into N l) =
-          moves-on a W′ grows refl table (finish-step (a .inv) i k (moving g gs (aim N (f .child))) (is-moving small b l)) (rw q (outer-falls S (levelCount w s₀) k grows refl d)) (next-aim (v .child) (on .child-is)) (more j ks)
+          moves-on a W′ grows refl table (finish-step (a .inv) i k (moving g gs (aim N (f .child))) (is-moving small b l)) (rw q (record { falls = outer-falls S (levelCount w s₀) k grows refl d; dooming = dooming-kept (ws i .key) kept refl })) (next-aim (v .child) (on .child-is)) (more j ks)

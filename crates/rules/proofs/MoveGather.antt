@@ -31,6 +31,7 @@ use Rattle.trie.proofs.Move.{Frame, edge, gather, Moving, gathers, aims}
 use Rattle.trie.proofs.MoveTurns.{Gathered, one-more, complete, gather-next, frame-published, withNodes}
 use Rattle.trie.proofs.Reached.{a-level, a-node}
 use Rattle.trie.proofs.MoveFalls.{gather-falls, gathered-falls}
+use Rattle.trie.proofs.Advance.{dooming-read}
 use Rattle.trie.proofs.Whole.{Worker, ActOk, is-moving, moving, owner}
 use Rattle.rules.proofs.Words.{shows-at}
 use Rattle.rules.proofs.Matches.{Framed, Frames, more, gatherKind}
@@ -86,10 +87,10 @@ module _ {w : ℕ} {s₀ s : Settings} {m : Memory} {W : WorldOf w s₀} {ws : �
   turn-word small b (gathers rest g l z c) (one-more n e k) =
       let y = room n k in
       let u = limit-le a in
-      rw (e, chain-node s h v os m n) (reads-on a (is-moving small b k) (rw now (gather-falls (a .inv .structure) (levelCount w s₀) g c n (omega (arith, l, length-append (f .nodes) rest)))) (next-gather (gather-more (f .nodes) n)) (more (framed-remember on n (omega arith)) js))
+      rw (e, chain-node s h v os m n) (reads-on a (is-moving small b k) (rw now (record { falls = gather-falls (a .inv .structure) (levelCount w s₀) g c n (omega (arith, l, length-append (f .nodes) rest)); dooming = dooming-read (ws i .key) refl })) (next-gather (gather-more (f .nodes) n)) (more (framed-remember on n (omega arith)) js))
   turn-word small b (gathers rest g l z d) (complete e N (aims pre k n o j c)) =
       let y = last-count on pre N n in
-      rw (e, chain-level s h v os m (f .child), last-aims s h v os m (λ q. omega arith)) (reads-on a (is-moving small b (aims pre k n o j c)) (rw now (gathered-falls (a .inv .structure) (levelCount w s₀) k c (omega (arith, l, length-append (f .nodes) rest)))) (next-aim (v .child) (on .child-is)) (more on js))
+      rw (e, chain-level s h v os m (f .child), last-aims s h v os m (λ q. omega arith)) (reads-on a (is-moving small b (aims pre k n o j c)) (rw now (record { falls = gathered-falls (a .inv .structure) (levelCount w s₀) k c (omega (arith, l, length-append (f .nodes) rest)); dooming = dooming-read (ws i .key) refl })) (next-aim (v .child) (on .child-is)) (more on js))
 
   abbrev Mine : Type 0
   Mine = ActOk W (owner i) (ws i .key) (ws i .since) (moving f fs gather)

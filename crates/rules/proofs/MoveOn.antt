@@ -23,7 +23,7 @@ use Rattle.trie.proofs.Evolve.{Grows}
 use Rattle.trie.proofs.Stand.{at-node}
 use Rattle.trie.proofs.Search.{Phase, peek}
 use Rattle.trie.proofs.Move.{Frame, Step, gather, aim, set, finish}
-use Rattle.trie.proofs.Falls.{Falls}
+use Rattle.trie.proofs.Advance.{Advance}
 use Rattle.trie.proofs.Whole.{moving, Worker, ActOk, owner, Inv}
 use Rattle.trie.proofs.Turns.{does}
 use Rattle.rules.proofs.Matches.{setKind, gatherKind, stepKind, node, Phased, peeks, fetches, puts, agains, levels, shuts, Frames, Stepped, gathers, aims, sets, finishes, moves}
@@ -78,8 +78,8 @@ last-ends s h v os m z = ap (λ k. going s k (v ∷ os) m) (pick-true (eqb (v .c
 
 module _ {w : ℕ} {s₀ s : Settings} {m : Memory} {W : WorldOf w s₀} {ws : ℕ → Worker} {i : ℕ} {h : Head} {vs : List Move} (a : At w s₀ s m W ws i (record′ h vs)) where
   -- the next step of a Move after a write, and after none
-  pub moves-on : {f : Frame} {fs : List Frame} {p : Step} {h′ : Head} {vs′ : List Move} {m′ : Memory} (W′ : WorldOf w s₀) → Grows W W′ → W′ .book ≡ W .book → Table w s₀ s m′ W′ → Inv W′ (upd ws i (does (ws i) (moving f fs p))) → Falls (levelCount w s₀) W W′ (ws i .act) (moving f fs p) → Next h h′ f p → Frames vs′ (f ∷ fs) → TurnOk w s₀ W ws i (going s h′ vs′ m′)
+  pub moves-on : {f : Frame} {fs : List Frame} {p : Step} {h′ : Head} {vs′ : List Move} {m′ : Memory} (W′ : WorldOf w s₀) → Grows W W′ → W′ .book ≡ W .book → Table w s₀ s m′ W′ → Inv W′ (upd ws i (does (ws i) (moving f fs p))) → Advance (levelCount w s₀) W W′ (ws i .key) (ws i .act) (moving f fs p) → Next h h′ f p → Frames vs′ (f ∷ fs) → TurnOk w s₀ W ws i (going s h′ vs′ m′)
   moves-on {f} {fs} {p} W′ E b T I l n k = acted a W′ (moving f fs p) still-moving E b T I l (n .call) (moves (n .kind-is) k (n .stepped))
 
-  pub reads-on : {f : Frame} {fs : List Frame} {p : Step} {h′ : Head} {vs′ : List Move} → ActOk W (owner i) (ws i .key) (ws i .since) (moving f fs p) → Falls (levelCount w s₀) W W (ws i .act) (moving f fs p) → Next h h′ f p → Frames vs′ (f ∷ fs) → TurnOk w s₀ W ws i (going s h′ vs′ m)
+  pub reads-on : {f : Frame} {fs : List Frame} {p : Step} {h′ : Head} {vs′ : List Move} → ActOk W (owner i) (ws i .key) (ws i .since) (moving f fs p) → Advance (levelCount w s₀) W W (ws i .key) (ws i .act) (moving f fs p) → Next h h′ f p → Frames vs′ (f ∷ fs) → TurnOk w s₀ W ws i (going s h′ vs′ m)
   reads-on {f} {fs} {p} o l n k = stayed a (moving f fs p) still-moving o l (n .call) (moves (n .kind-is) k (n .stepped))

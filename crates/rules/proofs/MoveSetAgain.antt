@@ -1,7 +1,7 @@
 -- SetRead, SetFollow, and a failed SetPut, SetAppend or SetClose: a node that is met is gone on to, and from a level the worker goes back to the child and sets the node there.
 -- Relies on a worker that sets a node, on what it does where it reads again, and on the theory's clauses.
 use Prim.Native.Nat.{ℕ}
-use mathlib.Core.Path.{_≡_, ap, _∙_}
+use mathlib.Core.Path.{_≡_, refl, ap, _∙_}
 use mathlib.Core.Logic.{_≢_}
 use mathlib.Core.Bool.{true}
 use mathlib.Core.List.{List, _∷_}
@@ -61,9 +61,9 @@ module _ {w : ℕ} {s₀ s : Settings} {m : Memory} {W : WorldOf w s₀} {ws : �
     where
       by : turns.SetNext W (owner i) (ws i .key) f fs N T x → TurnOk w s₀ W ws i (setMet s h v os (countFrom s h x) (goesTo w h (m .levels) x (named r)) r m)
       by (turns.set-on R e q k) =
-          rw (u ∙ e, met-goes s h v os (countFrom s h x) (goesTo w h (m .levels) x (named (nodeRef R))) R m, count-from a (standing o)) (goes-on o (set-falls (a .inv .structure) (levelCount w s₀) (o .frame) (o .around) (omega (arith, onward-less (a .inv .structure) (theory.more (dims w (s₀ .limit)) (passed x)) (o .setting .stand) e q, o .again-last))) k (next-node R (theory.more (dims w (s₀ .limit)) (passed x)) (o .level-is)))
+          rw (u ∙ e, met-goes s h v os (countFrom s h x) (goesTo w h (m .levels) x (named (nodeRef R))) R m, count-from a (standing o)) (goes-on o (set-falls (a .inv .structure) (levelCount w s₀) (o .frame) (o .around) (omega (arith, onward-less (a .inv .structure) (theory.more (dims w (s₀ .limit)) (passed x)) (o .setting .stand) e q, o .again-last))) refl k (next-node R (theory.more (dims w (s₀ .limit)) (passed x)) (o .level-is)))
       by (turns.set-down t c e q g d n k) =
-          rw (u ∙ e, met-falls s h v os (countFrom s h x) (goesTo w h (m .levels) x (named (levelRef t))) t m, named-level t) (goes-on o (set-down-falls (a .inv .structure) (levelCount w s₀) (o .frame) (o .around) x (o .again-last) (o .setting .path .pub-at) n) k (next-aim (goesTo w h (m .levels) x t) (goes-to-is a (standing o) q g d)))
+          rw (u ∙ e, met-falls s h v os (countFrom s h x) (goesTo w h (m .levels) x (named (levelRef t))) t m, named-level t) (goes-on o (set-down-falls (a .inv .structure) (levelCount w s₀) (o .frame) (o .around) x (o .again-last) (o .setting .path .pub-at) n) refl k (next-aim (goesTo w h (m .levels) x t) (goes-to-is a (standing o) q g d)))
 
   -- what SetRead and SetFollow do with the word met
   pub read-ok : (o : Setter a f fs N p T at-entry) → word W (W .pixel N) T at-entry ≢ levelRef T → TurnOk w s₀ W ws i (setReadWord s h v os (cellAt w m (setCellOf w h (lastNode v) m)) m)

@@ -27,6 +27,8 @@ use Rattle.trie.proofs.Search.{Phase, level, shut, Blank}
 use Rattle.trie.proofs.Move.{Frame, set, set-levels, set-shuts, frames-le, frame-depth}
 use Rattle.trie.proofs.MoveTurns.{shut-can}
 use Rattle.trie.proofs.MoveFalls.{set-level-falls}
+use Rattle.trie.proofs.Dooms.{missed-not}
+use Rattle.trie.proofs.Advance.{set-level-dooming}
 use Rattle.trie.proofs.Whole.{Worker, moving, owner}
 use Rattle.trie.proofs.Turns.{set-level-turn, set-shut-turn}
 use Rattle.rules.proofs.Matches.{Doing, moves, sets, shuts, more}
@@ -49,7 +51,7 @@ module _ {w : ℕ} {s₀ s : Settings} {m : Memory} {W : WorldOf w s₀} {ws : �
   level-turn z =
       taking.level-turn a (standing o) SetClose (v ∷ os) (λ G. moving f fs (set N (shut T (at-node R C) G))) (λ G. still-moving) shows
       (λ G free others had. set-level-turn (a .inv) i (acts-by o (sets-by o (set-levels (o .setting) full deep))) free others had)
-      (λ G free. rw (o .act-is, z) (set-level-falls (a .inv .structure) (levelCount w s₀) (o .frame) (o .around) free _ _ _ (owner i) (λ y. omega arith) (o .setting .path .pub-at) (o .setting .stand)))
+      (λ G free. rw (o .act-is, z) (record { falls = set-level-falls (a .inv .structure) (levelCount w s₀) (o .frame) (o .around) free _ _ _ (owner i) (λ y. omega arith) (o .setting .path .pub-at) (o .setting .stand); dooming = set-level-dooming (ws i .key) (a .inv .structure) free _ _ _ (owner i) (λ y. omega arith) (o .setting .path .pub-at) (o .setting .stand) }))
     where
       shows : (G : ℕ) → Doing (holdingLevel SetClose (G + 1) h) (v ∷ os) (moving f fs (set N (shut T (at-node R C) G)))
       shows G = moves refl (more (o .on) (o .around-on)) (sets (shuts (o .level-is) (place-as refl refl (o .place)) (add-one G)))
@@ -75,10 +77,11 @@ module _ {w : ℕ} {s₀ s : Settings} {m : Memory} {W : WorldOf w s₀} {ws : �
     close-asks =
         both-true (closing.close-asks a (standing o) hand) (exchanges-ok a (standing o) _ _ (lt-ltb (length (v ∷ os)) (maxMoves w) one-inside) (follows-ok o))
 
-    pub close-turn : TurnOk w s₀ W ws i (actBy SetClose w s h (v ∷ os) m)
+    pub close-turn : p ≡ shut T (at-node R C) M → TurnOk w s₀ W ws i (actBy SetClose w s h (v ∷ os) m)
     unfolding actBy setClose inner outer cellAt
-    close-turn =
+    close-turn z =
         closing.close-turn a (standing o) hand (more (o .on) (o .around-on))
         (λ q. shut-can (a .inv .structure) {v = owner i} (λ y. omega arith) (o .setting) full deep blank q)
         (λ q. set-shut-turn (a .inv) i (acts-by o (sets-by o (set-shuts (o .setting) full deep blank))) hand q)
+        (λ q. rw (o .act-is, z) (λ y. omega (arith, missed-not W (W .pixel N) T (at-node R C) q)))
         _ (follow-ok o)

@@ -25,6 +25,7 @@ use Rattle.trie.proofs.MoveTurns.{set-put, set-level}
 use Rattle.trie.proofs.Measure.{phase}
 use Rattle.trie.proofs.Falls.{later}
 use Rattle.trie.proofs.MoveFalls.{set-falls}
+use Rattle.trie.proofs.Dooms.{missed-not}
 use Rattle.trie.proofs.Whole.{Worker}
 use Rattle.rules.proofs.Matches.{byPos, puts, levels}
 use Rattle.rules.proofs.Invariant.{WorldOf, At, TurnOk}
@@ -43,20 +44,20 @@ module _ {w : ℕ} {s₀ s : Settings} {m : Memory} {W : WorldOf w s₀} {ws : �
   rereads {x} o = later W (peek T x) (again T x) refl refl (omega arith)
 
   -- room for the node
-  has-room : {x : Pos} (o : Setter a f fs N (peek T x) T x) → passed x < s₀ .limit → TurnOk w s₀ W ws i (going s (to (byPos SetPut SetAppend x) h) (v ∷ os) m)
-  has-room {x} o c = goes-on o (set-falls (a .inv .structure) (levelCount w s₀) (o .frame) (o .around) (later W (peek T x) (put T x N) refl refl (omega arith))) (set-put (a .inv .structure) (a .inv .partition) (sets-by o (set-peeks (o .setting))) c) (next-set (put T x N) (puts (o .level-is) (o .place)))
+  has-room : {x : Pos} (o : Setter a f fs N (peek T x) T x) → word W (W .pixel N) T x ≡ levelRef T → passed x < s₀ .limit → TurnOk w s₀ W ws i (going s (to (byPos SetPut SetAppend x) h) (v ∷ os) m)
+  has-room {x} o q c = goes-on o (set-falls (a .inv .structure) (levelCount w s₀) (o .frame) (o .around) (later W (peek T x) (put T x N) refl refl (omega arith))) (missed-not W (W .pixel N) T x q) (set-put (a .inv .structure) (a .inv .partition) (sets-by o (set-peeks (o .setting))) c) (next-set (put T x N) (puts (o .level-is) (o .place)))
 
   -- at a node by its count
   counted : {R C : ℕ} (o : Setter a f fs N (peek T (at-node R C)) T (at-node R C)) → word W (W .pixel N) T (at-node R C) ≡ levelRef T → TurnOk w s₀ W ws i (going s (to (byCount s (h .count) SetAppend SetLevel SetFollow) h) (v ∷ os) m)
   counted {R} {C} o q =
-      by-count a (standing o) (λ k. TurnOk w s₀ W ws i (going s (to k h) (v ∷ os) m)) SetAppend SetLevel SetFollow q (has-room o)
-      (λ c. goes-on o (set-falls (a .inv .structure) (levelCount w s₀) (o .frame) (o .around) (later W (peek T (at-node R C)) (level T (at-node R C)) refl refl (omega arith))) (set-level (a .inv .structure) (a .inv .partition) (sets-by o (set-peeks (o .setting))) q c) (next-set (level T (at-node R C)) (levels (o .level-is) (o .place))))
+      by-count a (standing o) (λ k. TurnOk w s₀ W ws i (going s (to k h) (v ∷ os) m)) SetAppend SetLevel SetFollow q (has-room o q)
+      (λ c. goes-on o (set-falls (a .inv .structure) (levelCount w s₀) (o .frame) (o .around) (later W (peek T (at-node R C)) (level T (at-node R C)) refl refl (omega arith))) (missed-not W (W .pixel N) T (at-node R C) q) (set-level (a .inv .structure) (a .inv .partition) (sets-by o (set-peeks (o .setting))) q c) (next-set (level T (at-node R C)) (levels (o .level-is) (o .place))))
 
   pub peek-turn : (x : Pos) → Setter a f fs N (peek T x) T x → TurnOk w s₀ W ws i (actBy (byPos SetLook SetTail x) w s h (v ∷ os) m)
   unfolding actBy setLook setTail peeked cellAt setCellOf inner outer
   peek-turn at-entry o =
       pick-both (λ k. TurnOk w s₀ W ws i (going s (to k h) (v ∷ os) m)) (expected h _)
-      (λ e. has-room o (limit-pos a))
+      (λ e. has-room o (here-reads a (standing o) e) (limit-pos a))
       (λ e. goes-again o (rereads o) (other-reads a (standing o) e))
   peek-turn (at-node R C) o =
       pick-both (λ k. TurnOk w s₀ W ws i (going s (to k h) (v ∷ os) m)) (expected h _)

@@ -30,6 +30,8 @@ use Rattle.trie.proofs.MoveTurns.{withNodes, AfterMove, emptied, next-one, put-
 use Rattle.trie.proofs.MoveOne.{moveOne, CanMove, move-grows}
 use Rattle.trie.proofs.Falls.{Falls}
 use Rattle.trie.proofs.MoveFalls.{put-falls, last-falls}
+use Rattle.trie.proofs.Dooms.{dooms, missed-not}
+use Rattle.trie.proofs.Advance.{dooming-done}
 use Rattle.trie.proofs.Turns.{put-step}
 use Rattle.trie.proofs.Whole.{Worker, is-moving, moving, owner}
 use Rattle.rules.proofs.Dims.{dims}
@@ -80,15 +82,15 @@ module _ {w : ℕ} {s₀ s : Settings} {m : Memory} {W : WorldOf w s₀} {ws : �
       less : Framed (forget v) (withNodes f (o .pre))
       less = framed-forget (o .on) (o .pre) N (o .nodes-are)
 
-      on-to : {now : Step} {h′ : Head} → Falls (levelCount w s₀) W W′ (moving f fs (set N (put T x M))) (moving (withNodes f (o .pre)) fs now) → Moving W′ (owner i) (ws i .key) (withNodes f (o .pre)) fs now → Next h h′ (withNodes f (o .pre)) now → TurnOk w s₀ W ws i (going s h′ (forget v ∷ os) m′)
-      on-to {now} l k z =
-          moves-on a W′ (move-grows S can) refl table (put-step (a .inv) i (o .pre) (o .frame) (o .setting) y e (moving (withNodes f (o .pre)) fs now) (is-moving (o .small) (o .since-le) k)) (rw (o .act-is) l) z (more less (o .around-on))
+      on-to : {now : Step} {h′ : Head} → Falls (levelCount w s₀) W W′ (moving f fs (set N (put T x M))) (moving (withNodes f (o .pre)) fs now) → dooms W′ (ws i .key) (moving (withNodes f (o .pre)) fs now) ≡ 0 → Moving W′ (owner i) (ws i .key) (withNodes f (o .pre)) fs now → Next h h′ (withNodes f (o .pre)) now → TurnOk w s₀ W ws i (going s h′ (forget v ∷ os) m′)
+      on-to {now} l u k z =
+          moves-on a W′ (move-grows S can) refl table (put-step (a .inv) i (o .pre) (o .frame) (o .setting) y e (moving (withNodes f (o .pre)) fs now) (is-moving (o .small) (o .since-le) k)) (rw (o .act-is) (record { falls = l; dooming = dooming-done (ws i .key) (λ y. omega (arith, missed-not W (W .pixel N) T x e)) u })) z (more less (o .around-on))
 
       by : AfterMove W′ (owner i) (ws i .key) f fs (o .pre) → TurnOk w s₀ W ws i (setLast s h (forget v) os m′)
-      by (emptied z k) = rw (last-ends s h (forget v) os m′ (sym (framed-count less) ∙ ap length z)) (on-to (last-falls S (levelCount w s₀) (o .frame) (o .around) (o .pre) can) k next-end)
+      by (emptied z k) = rw (last-ends s h (forget v) os m′ (sym (framed-count less) ∙ ap length z)) (on-to (last-falls S (levelCount w s₀) (o .frame) (o .around) (o .pre) can) refl k next-end)
       by (next-one N′ (aims pre′ k n p j c)) =
           let y = last-count less pre′ N′ n in
-          rw (last-aims s h (forget v) os m′ (λ q. omega arith)) (on-to (put-falls S (levelCount w s₀) (o .frame) (o .around) (o .pre) (o .nodes-are) can) (aims pre′ k n p j c) (next-aim (forget v .child) (less .child-is)))
+          rw (last-aims s h (forget v) os m′ (λ q. omega arith)) (on-to (put-falls S (levelCount w s₀) (o .frame) (o .around) (o .pre) (o .nodes-are) can) refl (aims pre′ k n p j c) (next-aim (forget v .child) (less .child-is)))
 
   -- done or failed
   put-either : {x : Pos} (failed : ℕ → Memory → steps.Step) (o : Setter a f fs N (put T x M) T x) → passed x < s₀ .limit → (word W (W .pixel N) T x ≢ levelRef T → TurnOk w s₀ W ws i (failed (cellAt w m (spot w h (pixelAt (m .nodes) (lastNode v)) (m .levels) x)) m)) → TurnOk w s₀ W ws i (setNode w failed s h v os (spot w h (pixelAt (m .nodes) (lastNode v)) (m .levels) x) m)

@@ -46,7 +46,7 @@ module _ {w : ℕ} {s₀ s : Settings} {m : Memory} {W : WorldOf w s₀} {ws : �
     asks : readsBy k w s h (v ∷ os) m ≡ true
     turn : TurnOk w s₀ W ws i (actBy k w s h (v ∷ os) m)
 
-  setter : {N : ℕ} (p : Phase) → ws i .act ≡ moving f fs (theory.set N p) → h .level ≡ levelOf p → Place h (posOf p) → ws i .key < base w ^ depths w → ws i .since ≤ length (W .book) → (pre : List ℕ) → FrameOk W (owner i) f (pre ++ (N ∷ [])) → f .nodes ≡ pre ++ (N ∷ []) → Setting W N (f .child) (levelOf p) (posOf p) → Around W (owner i) (ws i .key) (f .home) (f .key) (f .child) fs → Setter a f fs N p (levelOf p) (posOf p)
+  pub setter : {N : ℕ} (p : Phase) → ws i .act ≡ moving f fs (theory.set N p) → h .level ≡ levelOf p → Place h (posOf p) → ws i .key < base w ^ depths w → ws i .since ≤ length (W .book) → (pre : List ℕ) → FrameOk W (owner i) f (pre ++ (N ∷ [])) → f .nodes ≡ pre ++ (N ∷ []) → Setting W N (f .child) (levelOf p) (posOf p) → Around W (owner i) (ws i .key) (f .home) (f .key) (f .child) fs → Setter a f fs N p (levelOf p) (posOf p)
   setter p e l x small b pre k n t c = record { act-is = e; again-last = again-last W p; on = on; around-on = js; level-is = l; place = x; small = small; since-le = b; pre = pre; frame = k; nodes-are = n; setting = t; around = c }
 
   -- by the step, of which the record has the kind and the numbers, and the theory the clause
@@ -68,7 +68,7 @@ module _ {w : ℕ} {s₀ s : Settings} {m : Memory} {W : WorldOf w s₀} {ws : �
       record { asks = level-asks o y z; turn = level-turn o y z refl }
   by-step q (sets (shuts {H = T} {R = R} {C = C} {G = G} l d e)) (is-moving small b (theory.sets pre k n (set-shuts t y z u) c)) =
       let o = setter (shut T (at-node R C) G) q l d small b pre k n t c in
-      record { asks = close-asks o y z e u; turn = close-turn o y z e u }
+      record { asks = close-asks o y z e u; turn = close-turn o y z e u refl }
   by-step q finishes o = record { asks = finish-asks a on js q o; turn = finish-acts a on js q o }
 
 module _ {w : ℕ} {s₀ s : Settings} {m : Memory} {W : WorldOf w s₀} {ws : ℕ → Worker} {i : ℕ} where

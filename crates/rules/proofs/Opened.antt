@@ -33,7 +33,7 @@ use Rattle.rules.proofs.Words.{Shows, shows-level}
 use Rattle.rules.proofs.RowEnds.{pairs}
 use Rattle.rules.proofs.Matches.{Matches, rests}
 use Rattle.rules.specs.Calls.{done}
-use Rattle.rules.proofs.Invariant.{WorldOf, Table}
+use Rattle.rules.proofs.Invariant.{WorldOf, Table, Fine}
 use Rattle.rules.proofs.Along.{Along}
 
 -- the cells' words as a function
@@ -92,7 +92,7 @@ opened-record w s a i h q = zero-record w (a .workers) (s .workers) i h (room w 
 
 module _ {w : ℕ} (width : Width w) (s : Settings) (a : Areas) (y : question1 s ≡ true) (r : question2 w s (length (a .nodes)) (length (a .levels)) (length (a .workers)) ≡ true) where
   -- the world: what the words held before stays in its functions wherever the opening did not write
-  abbrev opened : WorldOf w s
+  abbrev pub opened : WorldOf w s
   opened = theory.opened (pixelAt (a .nodes)) (cellsOf w (memoryOf a)) (previousAt w (a .levels)) (depthAt w (a .levels)) none
 
   table : Table w s (openedSettings s) (memoryOf (openedAreas w s a)) opened
@@ -113,21 +113,29 @@ module _ {w : ℕ} (width : Width w) (s : Settings) (a : Areas) (y : question1 s
       some-level : 0 < levelCount w s
       some-level = omega arith
 
-  pub along-opened : Along w s (state (openedSettings s) (openedAreas w s a)) 0 [] []
-  unfolding openedAreas openedSettings fresh pairs
-  along-opened =
+  pub fine-opened : Fine w s (state (openedSettings s) (openedAreas w s a)) opened (λ i. theory.fresh)
+  unfolding openedAreas openedSettings fresh
+  fine-opened =
       let R = room w s (length (a .nodes)) (length (a .levels)) (length (a .workers)) r in
+      record {
+        table = table;
+        room = rw length-fill (R .workers);
+        inv = theory.opened-inv (pixelAt (a .nodes)) (cellsOf w (memoryOf a)) (previousAt w (a .levels)) (depthAt w (a .levels)) none (width .some);
+        levels = levels opened (s .workers);
+        records = λ i h. rw (zero-record w (a .workers) (s .workers) i h (R .workers)) matched;
+      }
+    where
+      matched : Matches idle theory.fresh
+      matched = record { pixel-is = refl; node-is = refl; level-is = refl; doing = rests refl refl (omega arith) }
+
+  pub along-opened : Along w s (state (openedSettings s) (openedAreas w s a)) 0 [] []
+  unfolding pairs
+  along-opened =
       record {
         world = opened;
         workers = λ i. theory.fresh;
         starts = λ i. 0;
-        fine = record {
-          table = table;
-          room = rw length-fill (R .workers);
-          inv = theory.opened-inv (pixelAt (a .nodes)) (cellsOf w (memoryOf a)) (previousAt w (a .levels)) (depthAt w (a .levels)) none (width .some);
-          levels = levels opened (s .workers);
-          records = λ i h. rw (zero-record w (a .workers) (s .workers) i h (R .workers)) matched;
-        };
+        fine = fine-opened;
         top = upd-same (previousAt w (a .levels)) 0 none;
         rows = record {
           row = [];
@@ -136,6 +144,3 @@ module _ {w : ℕ} (width : Width w) (s : Settings) (a : Areas) (y : question1 s
         };
         opened = λ i h b. absurd (b refl);
       }
-    where
-      matched : Matches idle theory.fresh
-      matched = record { pixel-is = refl; node-is = refl; level-is = refl; doing = rests refl refl (omega arith) }

@@ -69,12 +69,16 @@ unfolding stateAfter
 after-one w e x = refl
 
 -- the state x came of a carried out opening by the starts and turns noted in h
-record Comes (w : ℕ) (h : Since) (x : State) : Type 0 where
+pub record Comes (w : ℕ) (h : Since) (x : State) : Type 0 where
   pub settings : Settings
   pub areas : Areas
   pub carried : opening w settings areas .reply .number ≡ 0
   pub began : h .began ≡ after (opening w settings areas)
   pub ends : stateAfter w (h .events) (h .began) ≡ x
+
+-- from an opening on
+pub comes-opened : (w : ℕ) (s : Settings) (a : Areas) → opening w s a .reply .number ≡ 0 → Comes w (record { began = after (opening w s a); events = [] }) (after (opening w s a))
+comes-opened w s a z = record { settings = s; areas = a; carried = z; began = refl; ends = after-none w (after (opening w s a)) }
 
 -- events that lead to the state y
 comes-more : {w : ℕ} {h : Since} {x y : State} → Comes w h x → (es : List Event) → stateAfter w es x ≡ y → Comes w (record { began = h .began; events = h .events ++ es }) y
@@ -109,7 +113,7 @@ comes-opening {w} {x = x} c s =
     (λ e. c)
 
 -- one operation more
-comes-on : {w : ℕ} {h : Since} {x : State} → Comes w h x → (o : Operation) → Comes w (since w o x h) (leaves w o x)
+pub comes-on : {w : ℕ} {h : Since} {x : State} → Comes w h x → (o : Operation) → Comes w (since w o x h) (leaves w o x)
 unfolding since leaves performs happens eventsOf
 comes-on c (opens s) = comes-opening c s
 comes-on {w} {x = x} c (starts i row column) = comes-more c _ (after-one w (event.starts i row column) x)
@@ -118,7 +122,7 @@ comes-on {w} {x = x} c (lists l n) = comes-more c _ (list-leaves w l n x)
 comes-on {w} {x = x} c (asks i) = rw (last-leaves w i x) c
 
 -- any operations more
-comes-all : {w : ℕ} (os : List Operation) {h : Since} {x : State} → Comes w h x → Comes w (sinceAll w os x h) (leftBy w os x)
+pub comes-all : {w : ℕ} (os : List Operation) {h : Since} {x : State} → Comes w h x → Comes w (sinceAll w os x h) (leftBy w os x)
 unfolding sinceAll leftBy
 comes-all [] c = c
 comes-all (o ∷ os) c = comes-all os (comes-on c o)
@@ -198,8 +202,7 @@ module _ {w : ℕ} (width : Width w) where
 
 -- demand 3 of all operations over every width whose digits fit the pixel numbers
 pub operations-meet : (w : ℕ) → Width w → OperationsStatement w
-operations-meet w width s a z os =
-    meets width (record { settings = s; areas = a; carried = z; began = refl; ends = after-none w (after (opening w s a)) }) os
+operations-meet w width s a z os = meets width (comes-opened w s a z) os
 
 -- document 01's table
 pub operations : OperationsStatement 3

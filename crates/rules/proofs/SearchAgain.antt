@@ -28,6 +28,7 @@ use Rattle.trie.proofs.Stand.{Pos, at-entry, at-node, passed, Met, met-node, me
 use Rattle.trie.proofs.Search.{Phase, again, peek, Local, reads, word, Next, found, onward, down, reads-next}
 use Rattle.trie.proofs.Measure.{phase}
 use Rattle.trie.proofs.Falls.{onward-less, down-less}
+use Rattle.trie.proofs.Advance.{dooming-read}
 use Rattle.trie.proofs.Levels.{levels-stay}
 use Rattle.trie.proofs.Whole.{idle, Worker, is-idle, owner, stay-step}
 use Rattle.trie.proofs.Turns.{does}
@@ -74,18 +75,19 @@ module _ {w : ℕ} {s₀ s : Settings} {m : Memory} {W : WorldOf w s₀} {ws : �
         matches = record { pixel-is = a .matches .pixel-is; node-is = a .matches .node-is; level-is = a .matches .level-is; doing = rests refl refl (omega arith) };
         rowing = ends-found p e refl refl;
         falls = λ y. absurd (y refl);
+        dooming = dooming-read (ws i .key) refl;
         held = kept (a .table .nodes-fresh) refl;
       }
 
   -- another node
   goes-onward : (R c : ℕ) → phase W (peek H (at-node R (theory.more (dims w (s₀ .limit)) (passed x)))) < phase W (again H x) → c ≡ theory.more (dims w (s₀ .limit)) (passed x) → Local W (owner i) (ws i .key) (ws i .since) (peek H (at-node R (theory.more (dims w (s₀ .limit)) (passed x)))) → TurnOk w s₀ W ws i (going s (toNode Tail R c (r .head)) [] m)
   unfolding toNode
-  goes-onward R c n e l = stays o {q = peek H (at-node R (theory.more (dims w (s₀ .limit)) (passed x)))} (omega (arith, o .again-last)) refl (call-node Tail R c (r .head)) (peeks (o .level-is) (node refl e)) l
+  goes-onward R c n e l = stays o {q = peek H (at-node R (theory.more (dims w (s₀ .limit)) (passed x)))} (omega (arith, o .again-last)) refl refl (call-node Tail R c (r .head)) (peeks (o .level-is) (node refl e)) l
 
   -- a level
   goes-down : (g c : ℕ) → W .tree .depth H < W .tree .depth c → g ≡ c → Local W (owner i) (ws i .key) (ws i .since) (peek c at-entry) → TurnOk w s₀ W ws i (going s (toLevel Look g (r .head)) [] m)
   unfolding toLevel
-  goes-down g c n e l = stays o {q = peek c at-entry} (omega (arith, down-less (a .inv .structure) x (o .search .path .pub-at) n, o .again-last)) refl (call-level Look g (r .head)) (peeks e entry) l
+  goes-down g c n e l = stays o {q = peek c at-entry} (omega (arith, down-less (a .inv .structure) x (o .search .path .pub-at) n, o .again-last)) refl refl (call-level Look g (r .head)) (peeks e entry) l
 
   -- what the theory makes of the word
   pub met-ok : word W (ws i .key) H x ≢ levelRef H → TurnOk w s₀ W ws i (spec.met s (r .head) (countFrom s (r .head) x) (goesTo w (r .head) (m .levels) x (named (cellAt w m (spot w (r .head) (r .head .pixel) (m .levels) x)))) (cellAt w m (spot w (r .head) (r .head .pixel) (m .levels) x)) m)

@@ -20,6 +20,8 @@ use Rattle.rules.specs.Asked.{readsBy}
 use Rattle.trie.proofs.Stand.{at-node}
 use Rattle.trie.proofs.Search.{level, shut, Local, levels, shuts, shut-done}
 use Rattle.trie.proofs.Falls.{level-falls}
+use Rattle.trie.proofs.Dooms.{missed-not}
+use Rattle.trie.proofs.Advance.{level-dooming}
 use Rattle.trie.proofs.Whole.{searching, Worker, is-searching, owner}
 use Rattle.trie.proofs.Turns as turns
 use Rattle.rules.proofs.Matches as shown
@@ -42,7 +44,7 @@ module _ {w : ℕ} {s₀ s : Settings} {m : Memory} {W : WorldOf w s₀} {ws : �
   level-turn l =
       taking.level-turn a (standing o) Close [] (λ G. searching (shut H (at-node R C) G)) (λ G. still-searching) shows
       (λ G free others had. turns.level-turn (a .inv) i (is-searching (o .small) (o .since-le) l) free others had)
-      (λ G free. rw (o .act-is) (level-falls (a .inv .structure) (levelCount w s₀) free _ _ _ (owner i) (λ y. omega arith) (o .search .path .pub-at) (o .search .stand)))
+      (λ G free. rw (o .act-is) (record { falls = level-falls (a .inv .structure) (levelCount w s₀) free _ _ _ (owner i) (λ y. omega arith) (o .search .path .pub-at) (o .search .stand); dooming = level-dooming (ws i .key) (a .inv .structure) free _ _ _ (owner i) (λ y. omega arith) (o .search .path .pub-at) (o .search .stand) }))
     where
       shows : (G : ℕ) → Doing (holdingLevel Close (G + 1) (r .head)) [] (searching (shut H (at-node R C) G))
       shows G = searches refl refl (shown.shuts (o .level-is) (place-as refl refl (o .place)) (add-one G))
@@ -65,4 +67,5 @@ module _ {w : ℕ} {s₀ s : Settings} {m : Memory} {W : WorldOf w s₀} {ws : �
       closing.close-turn a (standing o) in-hand none
       (λ q. shut-done (a .inv .structure) (a .inv .partition) (λ y. omega arith) l q)
       (λ q. turns.shut-turn (a .inv) i (is-searching (o .small) (o .since-le) l) in-hand q)
+      (λ q. rw (o .act-is) (λ y. omega (arith, missed-not W (ws i .key) H (at-node R C) q)))
       _ (follow-ok o)

@@ -19,6 +19,7 @@ use Rattle.trie.proofs.Stand.{Pos, at-entry, at-node, passed}
 use Rattle.trie.proofs.Search.{peek, fetch, again, level, word, peek-fetch, peek-level}
 use Rattle.trie.proofs.Measure.{phase}
 use Rattle.trie.proofs.Falls.{later}
+use Rattle.trie.proofs.Dooms.{missed-not}
 use Rattle.trie.proofs.Whole.{Worker}
 use Rattle.rules.proofs.Matches.{byPos, searchKind, fetches, levels}
 use Rattle.rules.proofs.Invariant.{WorldOf, At, TurnOk}
@@ -35,7 +36,7 @@ module _ {w : ℕ} {s₀ s : Settings} {m : Memory} {W : WorldOf w s₀} {ws : �
   -- H is read: a node is wanted
   goes-fetch : {x : Pos} (o : Searcher a (peek H x) H x) → word W (ws i .key) H x ≡ levelRef H → passed x < s₀ .limit → TurnOk w s₀ W ws i (going s (to (byPos Take TakeTail x) (r .head)) [] m)
   goes-fetch {x} o q c =
-      goes-to o {q = fetch H x} (later W (peek H x) (fetch H x) refl refl (omega arith)) refl (fetches (level-to o (byPos Take TakeTail x)) (place-to (byPos Take TakeTail x) (o .place)))
+      goes-to o {q = fetch H x} (later W (peek H x) (fetch H x) refl refl (omega arith)) (missed-not W (ws i .key) H x q) refl (fetches (level-to o (byPos Take TakeTail x)) (place-to (byPos Take TakeTail x) (o .place)))
       (peek-fetch (a .inv .structure) (a .inv .partition) (o .since-le) (o .search) q c)
 
   rereads : {x : Pos} → Searcher a (peek H x) H x → phase W (again H x) < phase W (peek H x)
@@ -45,7 +46,7 @@ module _ {w : ℕ} {s₀ s : Settings} {m : Memory} {W : WorldOf w s₀} {ws : �
   goes-by-count : {R C : ℕ} (o : Searcher a (peek H (at-node R C)) H (at-node R C)) → word W (ws i .key) H (at-node R C) ≡ levelRef H → TurnOk w s₀ W ws i (going s (to (byCount s (r .head .count) TakeTail Level Follow) (r .head)) [] m)
   goes-by-count {R} {C} o q =
       by-count a (standing o) (λ k. TurnOk w s₀ W ws i (going s (to k (r .head)) [] m)) TakeTail Level Follow q (goes-fetch o q)
-      (λ c. goes-to o {q = level H (at-node R C)} (later W (peek H (at-node R C)) (level H (at-node R C)) refl refl (omega arith)) refl (levels (level-to o Level) (place-to Level (o .place))) (peek-level (a .inv .structure) (a .inv .partition) (o .search) q c))
+      (λ c. goes-to o {q = level H (at-node R C)} (later W (peek H (at-node R C)) (level H (at-node R C)) refl refl (omega arith)) (missed-not W (ws i .key) H (at-node R C) q) refl (levels (level-to o Level) (place-to Level (o .place))) (peek-level (a .inv .structure) (a .inv .partition) (o .search) q c))
 
   pub peek-turn : (x : Pos) → Searcher a (peek H x) H x → TurnOk w s₀ W ws i (actBy (searchKind (peek H x)) w s (r .head) (r .moves) m)
   unfolding actBy look tail peeked cellAt entryOf

@@ -22,6 +22,8 @@ use Rattle.trie.proofs.Place.{place, place-grows}
 use Rattle.trie.proofs.World.{lastCell}
 use Rattle.trie.proofs.Stand.{Pos, at-entry, at-node, cellOf}
 use Rattle.trie.proofs.Search.{put, Local, puts, word, put-done}
+use Rattle.trie.proofs.Dooms.{missed-not}
+use Rattle.trie.proofs.Advance.{dooming-done}
 use Rattle.trie.proofs.Levels.{levels-stay}
 use Rattle.trie.proofs.Whole.{idle, Worker, is-searching, owner}
 use Rattle.trie.proofs.Turns as turns
@@ -66,6 +68,7 @@ module _ {w : ℕ} {s₀ s : Settings} {m : Memory} {W : WorldOf w s₀} {ws : �
         matches = record { pixel-is = a .matches .pixel-is; node-is = refl; level-is = a .matches .level-is; doing = rests refl refl (omega arith) };
         rowing = ends-new can (pixel-of l) refl refl;
         falls = λ y. absurd (y refl);
+        dooming = rw (o .act-is) (dooming-done (ws i .key) (λ y. omega (arith, missed-not W (ws i .key) H x q)) refl);
         held = gave (a .table .nodes-fresh) hand refl;
       }
     where

@@ -28,6 +28,7 @@ use Rattle.trie.proofs.TakeNode as theory
 use Rattle.trie.proofs.Stand.{Pos, at-entry, at-node}
 use Rattle.trie.proofs.Search.{fetch, put, Local}
 use Rattle.trie.proofs.Falls.{fetch-falls}
+use Rattle.trie.proofs.Advance.{fetch-dooming}
 use Rattle.trie.proofs.Levels.{levels-stay}
 use Rattle.trie.proofs.Whole.{searching, Worker, is-searching, owner}
 use Rattle.trie.proofs.Turns as turns
@@ -82,6 +83,7 @@ module _ {w : ℕ} {s₀ s : Settings} {m : Memory} {W : WorldOf w s₀} {ws : �
         matches = record { pixel-is = a .matches .pixel-is; node-is = add-one n; level-is = a .matches .level-is; doing = searches refl refl (puts (o .level-is) (place-as refl refl (o .place))) };
         rowing = goes E refl still-searching refl refl;
         falls = λ y. rw (o .act-is) (fetch-falls (a .inv .structure) (levelCount w s₀) free (λ y. omega arith) l);
+        dooming = rw (o .act-is) (fetch-dooming K (a .inv .structure) free (λ y. omega arith) l);
         held = held;
       }
 

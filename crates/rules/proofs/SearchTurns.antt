@@ -31,7 +31,7 @@ module _ {w : ℕ} {s₀ s : Settings} {m : Memory} {W : WorldOf w s₀} {ws : �
     asks : readsBy (r .head .kind) w s (r .head) (r .moves) m ≡ true
     turn : question9 s r ≡ true → TurnOk w s₀ W ws i (act w s r m)
 
-  searcher : (p : Phase) → ws i .act ≡ searching p → r .head .kind ≡ searchKind p → r .head .level ≡ levelOf p → Place (r .head) (posOf p) → ws i .key < base w ^ depths w → ws i .since ≤ length (W .book) → Searching W (ws i .key) (levelOf p) (posOf p) → Searcher a p (levelOf p) (posOf p)
+  pub searcher : (p : Phase) → ws i .act ≡ searching p → r .head .kind ≡ searchKind p → r .head .level ≡ levelOf p → Place (r .head) (posOf p) → ws i .key < base w ^ depths w → ws i .since ≤ length (W .book) → Searching W (ws i .key) (levelOf p) (posOf p) → Searcher a p (levelOf p) (posOf p)
   searcher p e k g d small b c = record { kind-is = k; level-is = g; place = d; small = small; since-le = b; search = c; act-is = e; again-last = again-last W p }
 
   -- by the phase, of which the record has the kind and the numbers, and the theory the clause

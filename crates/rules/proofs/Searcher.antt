@@ -20,6 +20,8 @@ use Rattle.trie.proofs.Stand.{Pos}
 use Rattle.trie.proofs.Search.{Phase, again, Searching, Local, reads, word}
 use Rattle.trie.proofs.Measure.{phase, amount}
 use Rattle.trie.proofs.Falls.{lower}
+use Rattle.trie.proofs.Dooms.{doom}
+use Rattle.trie.proofs.Advance.{dooming-read}
 use Rattle.trie.proofs.Whole.{searching, Worker, is-searching, owner}
 use Rattle.rules.proofs.Matches.{byPos, searchKind, Place, Phased, agains, searches}
 use Rattle.rules.proofs.Invariant.{WorldOf, At, TurnOk}
@@ -42,14 +44,14 @@ module _ {w : ℕ} {s₀ s : Settings} {m : Memory} {W : WorldOf w s₀} {ws : �
   standing = record { level-is = o .level-is; pixel-is = a .matches .pixel-is; place = o .place; published = o .search .path .pub-at; stand = o .search .stand }
 
   -- a turn that writes nothing and goes on in phase q, which is nearer to the end, with the head h
-  pub stays : {q : Phase} {h : Head} → phase W q < phase W p → h .kind ≡ searchKind q → SameCall (r .head) h → Phased h q → Local W (owner i) (ws i .key) (ws i .since) q → TurnOk w s₀ W ws i (going s h [] m)
+  pub stays : {q : Phase} {h : Head} → phase W q < phase W p → doom W (ws i .key) q ≡ 0 → h .kind ≡ searchKind q → SameCall (r .head) h → Phased h q → Local W (owner i) (ws i .key) (ws i .since) q → TurnOk w s₀ W ws i (going s h [] m)
   unfolding amount
-  stays {q} n k c d l = stayed a (searching q) still-searching (is-searching (o .small) (o .since-le) l) (rw (o .act-is) (lower (levelCount w s₀) W W (searching p) (searching q) refl n)) c (searches k refl d)
+  stays {q} n z k c d l = stayed a (searching q) still-searching (is-searching (o .small) (o .since-le) l) (rw (o .act-is) (record { falls = lower (levelCount w s₀) W W (searching p) (searching q) refl n; dooming = dooming-read (ws i .key) z })) c (searches k refl d)
 
   -- only the kind changes
-  pub goes-to : {q : Phase} {k : Kind} → phase W q < phase W p → k ≡ searchKind q → Phased (to k (r .head)) q → Local W (owner i) (ws i .key) (ws i .since) q → TurnOk w s₀ W ws i (going s (to k (r .head)) [] m)
+  pub goes-to : {q : Phase} {k : Kind} → phase W q < phase W p → doom W (ws i .key) q ≡ 0 → k ≡ searchKind q → Phased (to k (r .head)) q → Local W (owner i) (ws i .key) (ws i .since) q → TurnOk w s₀ W ws i (going s (to k (r .head)) [] m)
   unfolding to
-  goes-to {k = k} n e d l = stays n e (call-to k (r .head)) d l
+  goes-to {k = k} n z e d l = stays n z e (call-to k (r .head)) d l
 
   pub level-to : (k : Kind) → to k (r .head) .level ≡ H
   unfolding to
@@ -57,4 +59,4 @@ module _ {w : ℕ} {s₀ s : Settings} {m : Memory} {W : WorldOf w s₀} {ws : �
 
   -- the word is not H: Read or Follow is next
   pub goes-again : phase W (again H x) < phase W p → word W (ws i .key) H x ≢ levelRef H → TurnOk w s₀ W ws i (going s (to (byPos Read Follow x) (r .head)) [] m)
-  goes-again n y = goes-to {q = again H x} n refl (agains (level-to (byPos Read Follow x)) (place-to (byPos Read Follow x) (o .place))) (reads (o .search) y)
+  goes-again n y = goes-to {q = again H x} n refl refl (agains (level-to (byPos Read Follow x)) (place-to (byPos Read Follow x) (o .place))) (reads (o .search) y)

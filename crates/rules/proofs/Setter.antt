@@ -1,7 +1,7 @@
 -- A worker that sets a node: its record beside its clause, where it stands, and a turn of it that writes nothing.
 -- Relies on where a worker stands and on turns of a Move that write nothing.
 use Prim.Native.Nat.{ℕ, _≤_, _<_, _^_}
-use mathlib.Core.Path.{_≡_, ap, _∙_}
+use mathlib.Core.Path.{_≡_, refl, ap, _∙_}
 use mathlib.Core.Logic.{_≢_}
 use mathlib.Core.Bool.{true}
 use mathlib.Core.List.{List, [], _∷_, _++_}
@@ -25,6 +25,8 @@ use Rattle.trie.proofs.Move.{Frame, FrameOk, Around, Setting, SetOk, Step, Movi
 use Rattle.trie.proofs.Measure.{phase}
 use Rattle.trie.proofs.Falls.{Falls}
 use Rattle.trie.proofs.MoveFalls.{set-falls}
+use Rattle.trie.proofs.Dooms.{doom, dooms}
+use Rattle.trie.proofs.Advance.{dooming-read}
 use Rattle.trie.proofs.Whole.{Worker, ActOk, is-moving, moving, owner}
 use Rattle.rules.proofs.Matches.{byPos, Place, agains, Framed, Frames, more}
 use Rattle.rules.proofs.Invariant.{WorldOf, At, TurnOk}
@@ -80,13 +82,13 @@ module _ {w : ℕ} {s₀ s : Settings} {m : Memory} {W : WorldOf w s₀} {ws : �
   acts-by k = is-moving (o .small) (o .since-le) k
 
   -- a turn that writes nothing
-  pub goes-on : {q : Step} {h′ : Head} → Falls (levelCount w s₀) W W (moving f fs (set N p)) (moving f fs q) → Moving W (owner i) (ws i .key) f fs q → Next h h′ f q → TurnOk w s₀ W ws i (going s h′ (v ∷ os) m)
-  goes-on l k n = reads-on a (acts-by k) (rw (o .act-is) l) n (more (o .on) (o .around-on))
+  pub goes-on : {q : Step} {h′ : Head} → Falls (levelCount w s₀) W W (moving f fs (set N p)) (moving f fs q) → dooms W (ws i .key) (moving f fs q) ≡ 0 → Moving W (owner i) (ws i .key) f fs q → Next h h′ f q → TurnOk w s₀ W ws i (going s h′ (v ∷ os) m)
+  goes-on l z k n = reads-on a (acts-by k) (rw (o .act-is) (record { falls = l; dooming = dooming-read (ws i .key) z })) n (more (o .on) (o .around-on))
 
   -- a later phase of setting the node
-  pub goes-to : {q : Phase} {h′ : Head} → phase W q < phase W p → SetOk W (owner i) N (f .child) q → Next h h′ f (set N q) → TurnOk w s₀ W ws i (going s h′ (v ∷ os) m)
-  goes-to l k n = goes-on (set-falls (a .inv .structure) (levelCount w s₀) (o .frame) (o .around) l) (sets-by k) n
+  pub goes-to : {q : Phase} {h′ : Head} → phase W q < phase W p → doom W (W .pixel N) q ≡ 0 → SetOk W (owner i) N (f .child) q → Next h h′ f (set N q) → TurnOk w s₀ W ws i (going s h′ (v ∷ os) m)
+  goes-to l z k n = goes-on (set-falls (a .inv .structure) (levelCount w s₀) (o .frame) (o .around) l) z (sets-by k) n
 
   -- the word is not T: SetRead or SetFollow is next
   pub goes-again : phase W (again T x) < phase W p → word W (W .pixel N) T x ≢ levelRef T → TurnOk w s₀ W ws i (going s (to (byPos SetRead SetFollow x) h) (v ∷ os) m)
-  goes-again l y = goes-to l (set-reads (o .setting) y) (next-set (again T x) (agains (o .level-is) (o .place)))
+  goes-again l y = goes-to l refl (set-reads (o .setting) y) (next-set (again T x) (agains (o .level-is) (o .place)))

@@ -26,7 +26,7 @@ use Rattle.trie.proofs.Evolve.{Grows}
 use Rattle.trie.proofs.Fresh.{Fresh, owned-taken, fresh-next, fresh-keep}
 use Rattle.trie.proofs.TakeLevel as theory
 use Rattle.trie.proofs.Stand.{Pos}
-use Rattle.trie.proofs.Falls.{Falls}
+use Rattle.trie.proofs.Advance.{Advance}
 use Rattle.trie.proofs.Levels.{Levels, levels-stay, levels-new}
 use Rattle.trie.proofs.Whole.{Act, idle, Worker, Inv, owner}
 use Rattle.trie.proofs.Turns as turns
@@ -49,7 +49,7 @@ module _ {w : ℕ} {s₀ s : Settings} {m : Memory} {W : WorldOf w s₀} {ws : �
   inHand G = theory.takeLevel W G H (suc (W .tree .depth H)) (W .tree .pfx H * base w + digit (dims w (s₀ .limit)) K (W .tree .depth H)) (owner i)
 
   -- the next kind and its record, and the theory's step to it
-  module _ (k : Kind) (vs : List Move) (now : ℕ → Act) (busy : (G : ℕ) → now G ≢ idle) (shows : (G : ℕ) → Doing (holdingLevel k (G + 1) (r .head)) vs (now G)) (steps : (G : ℕ) → W .tree .levelOwner G ≢ 0 → ((j : ℕ) → j ≢ i → W .tree .levelOwner G ≢ owner j) → (ws i .level ≡ 0) ⊎ (ws i .level ≡ suc G) → Inv (inHand G) (upd ws i (turns.does (turns.withLevel (ws i) (suc G)) (now G)))) (falls : (G : ℕ) → W .tree .levelOwner G ≢ 0 → Falls (levelCount w s₀) W (inHand G) (ws i .act) (now G)) where
+  module _ (k : Kind) (vs : List Move) (now : ℕ → Act) (busy : (G : ℕ) → now G ≢ idle) (shows : (G : ℕ) → Doing (holdingLevel k (G + 1) (r .head)) vs (now G)) (steps : (G : ℕ) → W .tree .levelOwner G ≢ 0 → ((j : ℕ) → j ≢ i → W .tree .levelOwner G ≢ owner j) → (ws i .level ≡ 0) ⊎ (ws i .level ≡ suc G) → Inv (inHand G) (upd ws i (turns.does (turns.withLevel (ws i) (suc G)) (now G)))) (advance : (G : ℕ) → W .tree .levelOwner G ≢ 0 → Advance (levelCount w s₀) W (inHand G) (ws i .key) (ws i .act) (now G)) where
     -- level G is written; the settings s′ count it
     with-level : (s′ : Settings) (G : ℕ) → SameSizes s₀ s′ → s′ .«nodes_taken» ≡ s .«nodes_taken» → Fresh (upd (W .tree .levelOwner) G (owner i)) (s′ .«levels_taken») → s′ .«levels_taken» ≤ levelCount w s₀ → W .tree .levelOwner G ≢ 0 → ((j : ℕ) → j ≢ i → W .tree .levelOwner G ≢ owner j) → (ws i .level ≡ 0) ⊎ (ws i .level ≡ suc G) → ((W′ : WorldOf w s₀) (c : Worker) → Grows W W′ → c .level ≡ suc G → Levels W′ (upd ws i c) (s₀ .workers) (s′ .«levels_taken»)) → TurnOk w s₀ W ws i (withLevel w k s′ (r .head) vs G m)
     unfolding withLevel holdingLevel
@@ -75,7 +75,8 @@ module _ {w : ℕ} {s₀ s : Settings} {m : Memory} {W : WorldOf w s₀} {ws : �
           levels = count _ c E refl;
           matches = record { pixel-is = a .matches .pixel-is; node-is = a .matches .node-is; level-is = add-one G; doing = shows G };
           rowing = goes E refl (busy G) refl refl;
-          falls = λ y. falls G free;
+          falls = λ y. advance G free .falls;
+          dooming = advance G free .dooming;
           held = keeps (rw e (a .table .nodes-fresh)) refl;
         }
 

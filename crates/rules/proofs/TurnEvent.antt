@@ -56,7 +56,7 @@ unfolding endsWith endingAnswer
 nothing-counts i k os = refl
 
 -- a turn that its questions let through, or all but question 9: n is its number
-abbrev Passed : ℕ → Type 0
+abbrev pub Passed : ℕ → Type 0
 Passed n = (n ≡ 0) ⊎ (n ≡ 9)
 
 other-number : (m : ℕ) {n : ℕ} → m ≢ 0 → m ≢ 9 → Passed n → m ≢ n
@@ -64,12 +64,12 @@ other-number m z y (inl e) q = z (q ∙ e)
 other-number m z y (inr e) q = y (q ∙ e)
 
 -- its worker is below workers and has a call open; what question 9 gives
-record Open8 (w : ℕ) (x : State) (i n : ℕ) : Type 0 where
+pub record Open8 (w : ℕ) (x : State) (i n : ℕ) : Type 0 where
   pub below : question4 (x .settings) i ≡ true
   pub busy : question7 (recordOf w (x .areas) i) ≡ false
   pub gives : firstNo (asks 9 (question9 (x .settings) (recordOf w (x .areas) i)) ∷ []) ≡ n
 
-turn-open : (w : ℕ) (x : State) (i : ℕ) {n : ℕ} → Passed n → turn w (x .settings) i (x .areas) .reply .number ≡ n → Open8 w x i n
+pub turn-open : (w : ℕ) (x : State) (i : ℕ) {n : ℕ} → Passed n → turn w (x .settings) i (x .areas) .reply .number ≡ n → Open8 w x i n
 unfolding turnQuestions question8
 turn-open w x i p e =
     let (y₁, e₁) = first-later 1 _ _ (other-number 1 (λ z. omega arith) (λ z. omega arith) p) (sym (turn-number w (x .settings) i (x .areas)) ∙ e) in

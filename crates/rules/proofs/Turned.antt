@@ -21,7 +21,7 @@ use Rattle.rules.specs.Asked.{readsBy}
 use Rattle.trie.proofs.Update.{Cell, upd, updC}
 use Rattle.trie.proofs.Evolve.{Grows, grows-refl}
 use Rattle.trie.proofs.Fresh.{Fresh}
-use Rattle.trie.proofs.Falls.{Falls}
+use Rattle.trie.proofs.Advance.{Advance}
 use Rattle.trie.proofs.Levels.{levels-stay}
 use Rattle.trie.proofs.Stand.{Pos}
 use Rattle.trie.proofs.Search.{Phase}
@@ -99,7 +99,7 @@ module _ {w : ℕ} {s₀ s : Settings} {m : Memory} {W : WorldOf w s₀} {ws : �
   asks-by e t = ap (λ k. readsBy k w s (r .head) (r .moves) m) e ∙ t
 
   -- the world has grown, the worker holds what it held
-  pub acted : {h : Head} {vs : List Move} {m′ : Memory} (W′ : WorldOf w s₀) (now : Act) → now ≢ idle → Grows W W′ → W′ .book ≡ W .book → Table w s₀ s m′ W′ → Inv W′ (upd ws i (does (ws i) now)) → Falls (levelCount w s₀) W W′ (ws i .act) now → SameCall (r .head) h → Doing h vs now → TurnOk w s₀ W ws i (going s h vs m′)
+  pub acted : {h : Head} {vs : List Move} {m′ : Memory} (W′ : WorldOf w s₀) (now : Act) → now ≢ idle → Grows W W′ → W′ .book ≡ W .book → Table w s₀ s m′ W′ → Inv W′ (upd ws i (does (ws i) now)) → Advance (levelCount w s₀) W W′ (ws i .key) (ws i .act) now → SameCall (r .head) h → Doing h vs now → TurnOk w s₀ W ws i (going s h vs m′)
   acted W′ now z E b T I l c d =
       record {
         world = W′;
@@ -114,12 +114,13 @@ module _ {w : ℕ} {s₀ s : Settings} {m : Memory} {W : WorldOf w s₀} {ws : �
           doing = d;
         };
         rowing = goes E b z refl refl;
-        falls = λ y. l;
+        falls = λ y. l .falls;
+        dooming = l .dooming;
         held = keeps (a .table .nodes-fresh) refl;
       }
 
   -- nothing is written
-  pub stayed : {h : Head} {vs : List Move} (now : Act) → now ≢ idle → ActOk W (owner i) (ws i .key) (ws i .since) now → Falls (levelCount w s₀) W W (ws i .act) now → SameCall (r .head) h → Doing h vs now → TurnOk w s₀ W ws i (going s h vs m)
+  pub stayed : {h : Head} {vs : List Move} (now : Act) → now ≢ idle → ActOk W (owner i) (ws i .key) (ws i .since) now → Advance (levelCount w s₀) W W (ws i .key) (ws i .act) now → SameCall (r .head) h → Doing h vs now → TurnOk w s₀ W ws i (going s h vs m)
   stayed now z o l c d =
       acted W now z (grows-refl W) refl (a .table)
       (stay-step (a .inv) i (does (ws i) now) (record { acts = o; holds-node = a .inv .each i .holds-node; holds-level = a .inv .each i .holds-level })) l c d

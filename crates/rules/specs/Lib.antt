@@ -1,4 +1,4 @@
--- The definitions of document 01, in its order, and what is said of them: its demands 1 and 3, its sentences besides, and what a call alone does.
+-- The definitions of document 01, in its order, and what is said of them: its demands 1 and 3, its sentences besides, what a call alone does; and of document 02.
 -- Relies on words, settings, areas and record.
 pub mod Opening
 pub mod Heads
@@ -28,3 +28,6 @@ pub mod Sequences
 pub mod Alone
 pub mod AloneAnswers
 pub mod CallsAlone
+pub mod Exchanges
+pub mod OwnExchange
+pub mod ExchangeBound

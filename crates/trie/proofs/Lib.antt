@@ -34,3 +34,5 @@ pub mod Rank
 pub mod Measure
 pub mod Falls
 pub mod MoveFalls
+pub mod Dooms
+pub mod Advance

@@ -1,6 +1,7 @@
 -- Sums over the numbers below n.
 -- Relies on Update.
 use mathlib.Core.Path.{_≡_, refl, sym, ap, ap₂}
+use mathlib.Core.Logic.{_≢_}
 use Prim.Native.Nat.{ℕ, zero, suc, _+_, _*_, _/_, _≤_, _<_}
 use native.Mathlib.Nat.{le-div-iff-mul-le, mul-comm}
 use native.Mathlib.Decide.{ℕ-discrete}
@@ -59,3 +60,19 @@ pub sum-zero : (n : ℕ) (f : ℕ → ℕ) → ((i : ℕ) → f i ≡ 0) → sum
 unfolding sum
 sum-zero zero f h = refl
 sum-zero (suc n) f h = let k = sum-zero n f h in let j = h n in omega arith
+
+pub sum-mono : (n : ℕ) (f g : ℕ → ℕ) → ((i : ℕ) → g i ≤ f i) → sum n g ≤ sum n f
+unfolding sum
+sum-mono zero f g h = omega arith
+sum-mono (suc n) f g h = let k = sum-mono n f g h in let j = h n in omega arith
+
+-- no number is greater, and one is less by k
+pub sum-less : (n : ℕ) (f g : ℕ → ℕ) (i k : ℕ) → i < n → ((j : ℕ) → j ≢ i → g j ≤ f j) → k + g i ≤ f i → k + sum n g ≤ sum n f
+sum-less n f g i k l h e =
+    let a = sum-upd n g i (k + g i) l in
+    let b = sum-mono n f (upd g i (k + g i)) (λ j. by j (ℕ-discrete j i)) in
+    omega arith
+  where
+    by : (j : ℕ) → Dec (j ≡ i) → upd g i (k + g i) j ≤ f j
+    by j (yes q) = rw (q, upd-same g i (k + g i)) e
+    by j (no q) = rw (upd-other g i (k + g i) j q) (h j q)

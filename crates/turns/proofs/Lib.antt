@@ -5,3 +5,4 @@ pub mod HeadKept
 pub mod OneCut
 pub mod Ways
 pub mod Moves
+pub mod Exchanged

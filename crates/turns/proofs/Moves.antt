@@ -5,7 +5,7 @@ use mathlib.Core.Path.{_≡_, refl, sym, ap, subst, _∙_}
 use mathlib.Core.Bool.{Bool, true, false}
 use mathlib.Core.List.{List, _∷_}
 use native.Mathlib.Omega.{arith}
-use lib.Dec.{leb}
+use lib.Dec.{eqb, leb}
 use lib.ListN.{length}
 use borrow.Author.Tests.{ne-eqb, eqb-true, le-leb, lt-leb, leb-true}
 use Rattle.words.specs.Choice.{pick, both, every}
@@ -15,18 +15,18 @@ use Rattle.settings.specs.Cut.{Sized}
 use Rattle.settings.specs.declared.Settings.{Settings}
 use Rattle.settings.proofs.Laws.{within-true}
 use Rattle.areas.specs.Memory.{Memory, memory, areas}
-use Rattle.record.specs.declared.Answer.the-variants.{Nothing}
-use Rattle.record.specs.declared.Reply.{Reply}
+use Rattle.record.specs.declared.Exchange.{Exchange}
+use Rattle.record.specs.declared.Exchange.the-variants.{None}
 use Rattle.record.specs.declared.Head.{Head}
 use Rattle.record.specs.declared.Kind.{Kind}
 use Rattle.record.specs.declared.Move.{Move}
 use Rattle.record.specs.Kinds.{kindNo}
 use Rattle.record.specs.Layout.{record′, load, headAt, movesAt, moveFrom, moveAt, firstMoves, store}
 use Rattle.record.specs.Fits.{fits, fitsBy, callFits, movingFits, movesFit, innerFits, outerFits}
-use Rattle.rules.specs.Acts.{actBy}
+use Rattle.rules.specs.Acts.{inner, outer, actBy}
 use Rattle.rules.specs.Asked.{readsBy, takesNode, question9}
 use Rattle.rules.specs.Steps.{Step}
-use Rattle.rules.specs.Operations.{result, reply}
+use Rattle.rules.specs.Exchanges.{exchangeOf}
 use Rattle.steps.specs.Tried.{Tried, tried, unlessSix, unlessNine}
 use Rattle.mover.specs.declared.Mover.{Mover}
 use Rattle.mover.specs.declared.Moved.{Moved}
@@ -34,8 +34,10 @@ use Rattle.mover.specs.Cut.{isMoving}
 use Rattle.mover.specs.Words.{innerAt, moverAt, Keeps, moverTo}
 use Rattle.mover.specs.Moved.{Gives, listAfter, moved}
 use Rattle.mover.proofs.Stored.{loaded-moves, loaded-around, store-is}
-use Rattle.turns.specs.Cut.{triedOf, finished}
+use Rattle.turns.specs.declared.Done.{Done}
+use Rattle.turns.specs.Cut.{triedOf, finished, turnDone, did, didOf, cameTo}
 use Rattle.turns.proofs.HeadKept.{kind-keeps}
+use Rattle.turns.proofs.Exchanged.{tried-came, count-after}
 use Rattle.turns.proofs.Finish.{finish-six, finish-done, tried-memory}
 
 -- a choice that is true, where the other branch is false
@@ -175,12 +177,12 @@ module _ (w : ℕ) (s : Settings) (i : ℕ) (h : Head) (nodes levels l : List �
   given-is r m′ v g a e = rw (← e, ← a) g
 
   pub move-refused :
-      (v : Mover) (r : Moved) {x : Reply} {n g : List ℕ} → x ≡ reply 6 Nothing 0 s → Given v r (memory n g) → v ≡ moverAt w l i h → r .number ≡ 6 → h ≡ headAt w l i → Sized s → fits w s (load w l i) ≡ true → 11 ≤ kindNo (h .kind)
-      → result x (areas n g l) ≡ finished w (triedOf w s (load w l i) (memory nodes levels)) i s (areas nodes levels l)
-  move-refused v r {x} {n} {g} a gives b z e y f k =
+      (v : Mover) (r : Moved) {d : Done} {n g : List ℕ} → d ≡ turnDone 6 s None → Given v r (memory n g) → v ≡ moverAt w l i h → r .number ≡ 6 → h ≡ headAt w l i → Sized s → fits w s (load w l i) ≡ true → 11 ≤ kindNo (h .kind)
+      → did d (areas n g l) ≡ didOf (exchangeOf w (load w l i) (memory nodes levels)) (finished w (triedOf w s (load w l i) (memory nodes levels)) i s (areas nodes levels l))
+  move-refused v r {d} {n} {g} a gives b z e y f k =
       let p : 11 ≤ kindNo (headAt w l i .kind) = rw e at k in
       let q = loaded-is w s i l (memory nodes levels) (memory n g) r y f p (given-is r (memory n g) v gives b e) in
-      finish-six w i s nodes levels l (triedOf w s (load w l i) (memory nodes levels)) (moved (moverAt w l i (headAt w l i)) r (innermost w l i) (around w l i) (memory n g) .step′) a q z (tried-memory w s (load w l i) (memory nodes levels))
+      finish-six w i s nodes levels l (triedOf w s (load w l i) (memory nodes levels)) _ (moved (moverAt w l i (headAt w l i)) r (innermost w l i) (around w l i) (memory n g) .step′) a q z (tried-memory w s (load w l i) (memory nodes levels))
 
   most-of : fits w s (load w l i) ≡ true → 11 ≤ kindNo (headAt w l i .kind) → Sized s → moverAt w l i (headAt w l i) .inner .count ≤ 8
   unfolding moverAt innerAt moveAt moveFrom
@@ -193,13 +195,30 @@ module _ (w : ℕ) (s : Settings) (i : ℕ) (h : Head) (nodes levels l : List �
       let k : Keeps (r .mover .head) (headAt w l i) = subst (λ (t : Tried). Keeps (t .step′ .record′ .head) (headAt w l i)) (sym q) (tried-keeps w s i l (memory nodes levels) m′ r f p) in
       store-is w l i (r .mover) k (given .most (most-of f p y)) (moves-least w s l i f p) (given .counts)
 
+  -- what its exchange came to
+  move-came : (r : Moved) {m′ : Memory} → moved (moverAt w l i (headAt w l i)) r (innermost w l i) (around w l i) m′ ≡ triedOf w s (load w l i) (memory nodes levels) → (r .number ≡ 6 → ⊥) → fits w s (load w l i) ≡ true → 11 ≤ kindNo (headAt w l i .kind)
+      → cameTo (kindNo (headAt w l i .kind)) (r .mover .head) (moverAt w l i (headAt w l i) .inner .count) (r .mover .inner .count)
+      ≡ pick (eqb (triedOf w s (load w l i) (memory nodes levels) .number) 0) (exchangeOf w (load w l i) (memory nodes levels)) None
+  unfolding load moverAt innerAt moveAt moveFrom inner outer
+  move-came r q z f p =
+      let v = moverAt w l i (headAt w l i) in
+      let ms : innermost w l i ∷ around w l i ≡ firstMoves w l i (movesAt w l i) = loaded-moves w l i (moves-least w s l i f p) in
+      let before : innermost w l i .count ≡ inner (firstMoves w l i (movesAt w l i)) .count = ap (λ (u : List Move). inner u .count) ms in
+      let os : around w l i ≡ outer (firstMoves w l i (movesAt w l i)) = ap outer ms in
+      ap (λ (t : Tried). cameTo (kindNo (headAt w l i .kind)) (t .step′ .record′ .head) (innermost w l i .count) (r .mover .inner .count)) q
+      ∙ ap (λ (n : ℕ). cameTo (kindNo (headAt w l i .kind)) (triedOf w s (load w l i) (memory nodes levels) .step′ .record′ .head) n (r .mover .inner .count)) before
+      ∙ tried-came w s (headAt w l i) (firstMoves w l i (movesAt w l i)) (memory nodes levels) (r .mover .inner .count)
+      (λ u. rw (← before) (first-fits w s l i f p (movesAt w l i) (fits-list w s l i f p .1) .1))
+      (λ u x e. count-after v (r .mover) (innermost w l i) x (around w l i) (ap (λ (t : Tried). t .step′ .record′ .moves) q ∙ e ∙ ap (λ (ns : List Move). x ∷ ns) (sym os)))
+      (λ u. z (ap (λ (t : Tried). t .number) q ∙ u))
+
   pub move-done :
-      (v : Mover) (r : Moved) {x : Reply} {n g l′ : List ℕ} → x ≡ reply 0 (r .answer) 0 (r .settings) → l′ ≡ moverTo w (r .mover) i l → Given v r (memory n g) → v ≡ moverAt w l i h → (r .number ≡ 6 → ⊥) → h ≡ headAt w l i → Sized s → fits w s (load w l i) ≡ true → 11 ≤ kindNo (h .kind)
-      → result x (areas n g l′) ≡ finished w (triedOf w s (load w l i) (memory nodes levels)) i s (areas nodes levels l)
-  move-done v r {x} {n} {g} {l′} a c gives b z e y f k =
+      (v : Mover) (r : Moved) {d : Done} {x : Exchange} {n g l′ : List ℕ} → d ≡ turnDone 0 (r .settings) x → x ≡ cameTo (kindNo (h .kind)) (r .mover .head) (v .inner .count) (r .mover .inner .count) → l′ ≡ moverTo w (r .mover) i l → Given v r (memory n g) → v ≡ moverAt w l i h → (r .number ≡ 6 → ⊥) → h ≡ headAt w l i → Sized s → fits w s (load w l i) ≡ true → 11 ≤ kindNo (h .kind)
+      → did d (areas n g l′) ≡ didOf (exchangeOf w (load w l i) (memory nodes levels)) (finished w (triedOf w s (load w l i) (memory nodes levels)) i s (areas nodes levels l))
+  move-done v r {d} {x} {n} {g} {l′} a o c gives b z e y f k =
       let p : 11 ≤ kindNo (headAt w l i .kind) = rw e at k in
       let given : Given (moverAt w l i (headAt w l i)) r (memory n g) = given-is r (memory n g) v gives b e in
       let q = loaded-is w s i l (memory nodes levels) (memory n g) r y f p given in
       let number-is : r .number ≡ triedOf w s (load w l i) (memory nodes levels) .number = ap (λ (t : Tried). t .number) q in
       let zero : r .number ≡ 0 = number-is ∙ tried-zero w s i l (memory nodes levels) (memory n g) r f p (λ u. z (number-is ∙ u)) in
-      finish-done w i s nodes levels l (triedOf w s (load w l i) (memory nodes levels)) (moved (moverAt w l i (headAt w l i)) r (innermost w l i) (around w l i) (memory n g) .step′) (a ∙ ap (λ k. reply k (r .answer) 0 (r .settings)) (sym zero)) (c ∙ kept-is r given q y f p) q z
+      finish-done w i s nodes levels l (triedOf w s (load w l i) (memory nodes levels)) _ (moved (moverAt w l i (headAt w l i)) r (innermost w l i) (around w l i) (memory n g) .step′) (a ∙ ap (λ k. turnDone k (r .settings) x) (sym zero)) (o ∙ rw (b, e) (move-came r q z f p)) (c ∙ kept-is r given q y f p) q z

@@ -16,8 +16,9 @@ use Rattle.settings.specs.Cut.{firstThree}
 use Rattle.words.specs.Digits.{depths}
 use Rattle.settings.specs.declared.Settings.{Settings}
 use Rattle.settings.proofs.Laws.{three-yes}
-use Rattle.areas.specs.Memory.{memory, Areas, areas}
+use Rattle.areas.specs.Memory.{memory, areas}
 use Rattle.record.specs.declared.Answer.the-variants.{Nothing}
+use Rattle.record.specs.declared.Exchange.the-variants.{None}
 use Rattle.record.specs.declared.Reply.{Reply}
 use Rattle.record.specs.declared.Head.{Head}
 use Rattle.record.specs.Kinds.{kindNo}
@@ -27,11 +28,13 @@ use Rattle.record.proofs.Pieces.{length-first}
 use Rattle.record.proofs.Tests.{fits-idle}
 use Rattle.rules.specs.Asked.{question4, question7}
 use Rattle.rules.specs.Operations.{Result, result, reply, refused, turn}
+use Rattle.rules.specs.Exchanges.{exchangeOf}
 use Rattle.rules.specs.Lists.{state}
 use Rattle.table.specs.Cut.{firstFour}
 use Rattle.table.proofs.Questions.{both-zero}
 use Rattle.turns.specs.declared.Done.{Done}
-use Rattle.turns.specs.Cut.{triedOf, finished, turnHere, doneOf, did, didBy, didHere}
+use Rattle.turns.specs.Cut.{triedOf, finished, turnHere, turnDone, Did, did, didOf, didHere}
+use Rattle.turns.proofs.Finish.{did-six}
 use Rattle.turns.proofs.OneCut.{turn-cut}
 use Rattle.rules.proofs.Three.{Three}
 
@@ -51,26 +54,30 @@ no-moves w s l i e low high =
 
 module _ (w : ℕ) (s : Settings) (i : ℕ) (n g l : List ℕ) where
   -- a record that does not fit
-  pub here-six : {r : Reply} {b : Bool} → r ≡ reply 6 Nothing 0 s → b ≡ fits w s (load w l i) → b ≡ false → result r (areas n g l) ≡ turnHere w s i (areas n g l)
+  pub here-six : {d : Done} {b : Bool} → d ≡ turnDone 6 s None → b ≡ fits w s (load w l i) → b ≡ false → did d (areas n g l) ≡ didHere w s i (areas n g l)
   unfolding turnHere
-  here-six a q z = rw (a, pick-false _ _ (refused 6 s (areas n g l)) (sym q ∙ z)) refl
+  here-six a q z = rw (a, pick-false _ _ (refused 6 s (areas n g l)) (sym q ∙ z)) (sym (did-six s _ (areas n g l)))
+
+  -- what is handed on of a turn of the record r
+  abbrev didFrom : Record → Did
+  didFrom r = didOf (exchangeOf w r (memory n g)) (finished w (triedOf w s r (memory n g)) i s (areas n g l))
 
   -- one that fits, with a call open
-  pub here-open : {x : Result} {b : Bool} {h : Head} → x ≡ finished w (triedOf w s (load w l i) (memory n g)) i s (areas n g l) → b ≡ fits w s (load w l i) → b ≡ true → h ≡ headAt w l i → 1 ≤ kindNo (h .kind) → x ≡ turnHere w s i (areas n g l)
+  pub here-open : {x : Did} {b : Bool} {h : Head} → x ≡ didFrom (load w l i) → b ≡ fits w s (load w l i) → b ≡ true → h ≡ headAt w l i → 1 ≤ kindNo (h .kind) → x ≡ didHere w s i (areas n g l)
   unfolding turnHere question7 load
   here-open {h = h} a q z e low =
       let y : kindNo (headAt w l i .kind) ≢ 0 = λ u. let v : kindNo (h .kind) ≡ 0 = ap (λ (t : Head). kindNo (t .kind)) e ∙ u in omega arith in
-      a ∙ sym (pick-true _ _ _ (sym q ∙ z) ∙ pick-false _ _ _ (ne-eqb _ _ y))
+      a ∙ ap (didOf _) (sym (pick-true _ _ _ (sym q ∙ z) ∙ pick-false _ _ _ (ne-eqb _ _ y)))
 
   -- the same of a moving head
-  pub here-move : {x : Result} {b : Bool} {h : Head} → x ≡ finished w (triedOf w s (load w l i) (memory n g)) i s (areas n g l) → b ≡ fits w s (load w l i) → b ≡ true → h ≡ headAt w l i → 11 ≤ kindNo (h .kind) → x ≡ turnHere w s i (areas n g l)
+  pub here-move : {x : Did} {b : Bool} {h : Head} → x ≡ didFrom (load w l i) → b ≡ fits w s (load w l i) → b ≡ true → h ≡ headAt w l i → 11 ≤ kindNo (h .kind) → x ≡ didHere w s i (areas n g l)
   here-move a q z e low = here-open a q z e (omega arith)
 
   -- the same of a searching head, which has no Moves
-  pub here-search : {x : Result} {b : Bool} {h : Head} → x ≡ finished w (triedOf w s (record′ h []) (memory n g)) i s (areas n g l) → b ≡ fits w s (load w l i) → b ≡ true → h ≡ headAt w l i → 1 ≤ kindNo (h .kind) → kindNo (h .kind) ≤ 10 → x ≡ turnHere w s i (areas n g l)
+  pub here-search : {x : Did} {b : Bool} {h : Head} → x ≡ didFrom (record′ h []) → b ≡ fits w s (load w l i) → b ≡ true → h ≡ headAt w l i → 1 ≤ kindNo (h .kind) → kindNo (h .kind) ≤ 10 → x ≡ didHere w s i (areas n g l)
   here-search {h = h} a q z e low high =
       let m : load w l i ≡ record′ h [] = no-moves w s l i (sym q ∙ z) (rw (← e) low) (rw (← e) high) ∙ ap (λ (u : Head). record′ u []) (sym e) in
-      here-open (a ∙ ap (λ (r : Record). finished w (triedOf w s r (memory n g)) i s (areas n g l)) (sym m)) q z e low
+      here-open (a ∙ ap didFrom (sym m)) q z e low
 
   -- an idle worker, by two words of it
   pub here-idle : {b : Bool} {c : ℕ} → c ≡ headAt w l i .answer → b ≡ eqb (kindNo (headAt w l i .kind)) 0 → b ≡ true → turnHere w s i (areas n g l) ≡ pick (leb c 3) (refused 8 s (areas n g l)) (refused 6 s (areas n g l))
@@ -90,16 +97,6 @@ module _ (w : ℕ) (s : Settings) (i : ℕ) (n g l : List ℕ) where
   turn-refused {r} {q} a e z =
       let y : firstFour w s i (length n) (length g) (length l) ≢ 0 = λ u. z (e ∙ u) in
       rw (a, e) (sym (pick-false _ _ _ (ne-eqb _ _ y)) ∙ turn-cut w s i (areas n g l))
-
--- what is handed on of a turn with a call open
-module _ (w : ℕ) (s : Settings) (i : ℕ) (a : Areas) where
-  pub did-here : {d : Done} {r : Reply} {b : Areas} → d ≡ doneOf r → result r b ≡ turnHere w s i a → did d b ≡ didHere w s i a
-  unfolding didBy
-  did-here {d} {r} {b} e f = rw e (ap didBy f)
-
-pub done-is : (r : Reply) → record { number = r .number; «nodes_taken» = r .settings .«nodes_taken»; «levels_taken» = r .settings .«levels_taken» } ≡ doneOf r
-unfolding doneOf
-done-is r = refl
 
 module _ (w : ℕ) (l : List ℕ) (i : ℕ) where
   pub not-idle : {b : Bool} → b ≡ eqb (kindNo (headAt w l i .kind)) 0 → b ≡ false → 1 ≤ kindNo (headAt w l i .kind)

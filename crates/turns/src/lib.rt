@@ -1,5 +1,5 @@
 // A turn of a worker with a call open, once questions 1 to 4 are answered yes: the record is loaded, its kind's method is called, what it leaves is stored.
-// Relies on worker and mover for the turns, on record for the worker's words, on table for replies.
+// Relies on worker and mover for the turns, on record for the worker's words.
 ghost use mathlib.Core.Path.{_≡_};
 ghost use mathlib.Core.Bool.{true};
 ghost use mathlib.Core.List.{[]};
@@ -10,22 +10,83 @@ ghost use Rattle.areas.specs.Memory.{areas, memory};
 ghost use Rattle.record.specs.Kinds.{kindNo};
 ghost use Rattle.record.specs.Layout.{record′, load, headAt, store};
 ghost use Rattle.record.specs.Fits.{fits};
-ghost use Rattle.rules.specs.Operations.{result};
+ghost use Rattle.rules.specs.Exchanges.{exchangeOf};
 ghost use Rattle.steps.specs.Cut.{begun};
-ghost use Rattle.turns.specs.Cut.{triedOf, finished, turnHere, doneOf, did, didHere};
+ghost use Rattle.turns.specs.Cut.{triedOf, finished, turnDone, byHeld, byRemembered, cameTo, did, didOf, didHere};
 use mover::Mover;
+use record::Exchange;
 use record::Head;
+use record::Kind;
 use record::Move;
-use record::Reply;
 use record::inside;
 use record::kind_no;
 use record::move_fits;
 use record::search_fits;
 use settings::Settings;
-use table::refusal;
-use table::replied;
 use worker::Turned;
 use worker::Worker;
+
+// What a turn gives: its number, of the settings what it can change, and what its exchange came to. Its answer stands in the record.
+pub struct Done {
+    pub number: u32,
+    pub nodes_taken: u32,
+    pub levels_taken: u32,
+    pub exchange: Exchange,
+}
+
+fn turn_done(number: u32, s: Settings, e: Exchange) -> Done
+    ensures { λ d. ⌜ d ≡ turnDone number s e ⌝ }
+{
+    Done {
+        number: number,
+        nodes_taken: s.nodes_taken,
+        levels_taken: s.levels_taken,
+        exchange: e,
+    }
+}
+
+fn refused_six(s: Settings) -> Done
+    ensures { λ d. ⌜ d ≡ turnDone 6 s Exchange.None ⌝ }
+{
+    turn_done(6, s, Exchange::None)
+}
+
+// Put, Append, Close, SetClose: what was put into the cell is no longer in hand.
+fn by_held(held: u32) -> Exchange
+    ensures { λ e. ⌜ e ≡ byHeld held ⌝ }
+{
+    if held == 0 {
+        Exchange::Done
+    } else {
+        Exchange::Failed
+    }
+}
+
+// SetPut, SetAppend: the node that was put into the cell is no longer remembered.
+fn by_remembered(before: u32, after: u32) -> Exchange
+    ensures { λ e. ⌜ e ≡ byRemembered before after ⌝ }
+{
+    if after < before {
+        Exchange::Done
+    } else {
+        Exchange::Failed
+    }
+}
+
+// What the exchange of a turn came to, by the kind before the turn, the head after it, and the nodes that the innermost Move remembered before and after.
+fn came_to(k: Kind, h: Head, before: u32, after: u32) -> Exchange
+    ensures { λ e. ⌜ e ≡ cameTo (kindNo k) h before after ⌝ }
+{
+    match k {
+        Kind::Put => by_held(h.held_node),
+        Kind::Append => by_held(h.held_node),
+        Kind::Close => by_held(h.held_level),
+        Kind::SetPut => by_remembered(before, after),
+        Kind::SetAppend => by_remembered(before, after),
+        Kind::SetClose => by_held(h.held_level),
+        _ => Exchange::None,
+    }
+}
 
 // What a searching turn leaves in the worker's words: the head, and a Move that has begun.
 fn keep_search(t: Turned, i: u32, workers: &mut [u32])
@@ -50,22 +111,23 @@ fn search_turn(
     nodes: &mut [u32],
     levels: &mut [u32],
     workers: &mut [u32],
-) -> Reply
+) -> Done
     requires { ⌜ Sized s ⌝ }
     requires { ⌜ 1 ≤ kindNo (h .kind) ⌝ }
     requires { ⌜ kindNo (h .kind) ≤ 10 ⌝ }
-    ensures { λ r. ⌜ result r (areas (now (nodes .exit)) (now (levels .exit)) (now (workers .exit))) ≡ finished 3 (triedOf 3 s (record′ h []) (memory (now (nodes .entry)) (now (levels .entry)))) i s (areas (now (nodes .entry)) (now (levels .entry)) (now (workers .entry))) ⌝ }
+    ensures { λ d. ⌜ did d (areas (now (nodes .exit)) (now (levels .exit)) (now (workers .exit))) ≡ didOf (exchangeOf 3 (record′ h []) (memory (now (nodes .entry)) (now (levels .entry)))) (finished 3 (triedOf 3 s (record′ h []) (memory (now (nodes .entry)) (now (levels .entry)))) i s (areas (now (nodes .entry)) (now (levels .entry)) (now (workers .entry)))) ⌝ }
 {
     let w = Worker { head: h };
     let t = w.turn(s, nodes, levels);
     let n = t.number;
     if n == 6 {
-        refusal(6, s)
+        refused_six(s)
     } else {
-        let a = t.answer;
+        let k = h.kind;
+        let w2 = t.worker;
         let s2 = t.settings;
         keep_search(t, i, workers);
-        replied(n, a, s2)
+        turn_done(n, s2, came_to(k, w2.head, 0, 0))
     }
 }
 
@@ -77,24 +139,26 @@ fn move_turn(
     nodes: &mut [u32],
     levels: &mut [u32],
     workers: &mut [u32],
-) -> Reply
+) -> Done
     requires { ⌜ Sized s ⌝ }
     requires { ⌜ h ≡ headAt 3 (now workers) i ⌝ }
     requires { ⌜ fits 3 s (load 3 (now workers) i) ≡ true ⌝ }
     requires { ⌜ 11 ≤ kindNo (h .kind) ⌝ }
-    ensures { λ r. ⌜ result r (areas (now (nodes .exit)) (now (levels .exit)) (now (workers .exit))) ≡ finished 3 (triedOf 3 s (load 3 (now (workers .entry)) i) (memory (now (nodes .entry)) (now (levels .entry)))) i s (areas (now (nodes .entry)) (now (levels .entry)) (now (workers .entry))) ⌝ }
+    ensures { λ d. ⌜ did d (areas (now (nodes .exit)) (now (levels .exit)) (now (workers .exit))) ≡ didOf (exchangeOf 3 (load 3 (now (workers .entry)) i) (memory (now (nodes .entry)) (now (levels .entry)))) (finished 3 (triedOf 3 s (load 3 (now (workers .entry)) i) (memory (now (nodes .entry)) (now (levels .entry)))) i s (areas (now (nodes .entry)) (now (levels .entry)) (now (workers .entry)))) ⌝ }
 {
     let v = Mover::load(workers, i, h);
     let t = v.turn(s, nodes, levels);
     let n = t.number;
     if n == 6 {
-        refusal(6, s)
+        refused_six(s)
     } else {
-        let a = t.answer;
-        let s2 = t.settings;
+        let k = h.kind;
         let m = t.mover;
+        let b = v.inner;
+        let c = m.inner;
+        let s2 = t.settings;
         m.store(workers, i);
-        replied(0, a, s2)
+        turn_done(0, s2, came_to(k, m.head, b.count, c.count))
     }
 }
 
@@ -106,17 +170,17 @@ fn search_here(
     nodes: &mut [u32],
     levels: &mut [u32],
     workers: &mut [u32],
-) -> Reply
+) -> Done
     requires { ⌜ Sized s ⌝ }
     requires { ⌜ h ≡ headAt 3 (now workers) i ⌝ }
     requires { ⌜ 1 ≤ kindNo (h .kind) ⌝ }
     requires { ⌜ kindNo (h .kind) ≤ 10 ⌝ }
-    ensures { λ r. ⌜ result r (areas (now (nodes .exit)) (now (levels .exit)) (now (workers .exit))) ≡ turnHere 3 s i (areas (now (nodes .entry)) (now (levels .entry)) (now (workers .entry))) ⌝ }
+    ensures { λ d. ⌜ did d (areas (now (nodes .exit)) (now (levels .exit)) (now (workers .exit))) ≡ didHere 3 s i (areas (now (nodes .entry)) (now (levels .entry)) (now (workers .entry))) ⌝ }
 {
     if search_fits(s, h, workers, i) {
         search_turn(s, i, h, nodes, levels, workers)
     } else {
-        refusal(6, s)
+        refused_six(s)
     }
 }
 
@@ -128,34 +192,16 @@ fn move_here(
     nodes: &mut [u32],
     levels: &mut [u32],
     workers: &mut [u32],
-) -> Reply
+) -> Done
     requires { ⌜ Sized s ⌝ }
     requires { ⌜ h ≡ headAt 3 (now workers) i ⌝ }
     requires { ⌜ 11 ≤ kindNo (h .kind) ⌝ }
-    ensures { λ r. ⌜ result r (areas (now (nodes .exit)) (now (levels .exit)) (now (workers .exit))) ≡ turnHere 3 s i (areas (now (nodes .entry)) (now (levels .entry)) (now (workers .entry))) ⌝ }
+    ensures { λ d. ⌜ did d (areas (now (nodes .exit)) (now (levels .exit)) (now (workers .exit))) ≡ didHere 3 s i (areas (now (nodes .entry)) (now (levels .entry)) (now (workers .entry))) ⌝ }
 {
     if move_fits(s, h, workers, i) {
         move_turn(s, i, h, nodes, levels, workers)
     } else {
-        refusal(6, s)
-    }
-}
-
-// What a turn gives: its number, and of the settings what it can change. Its answer stands in the record.
-pub struct Done {
-    pub number: u32,
-    pub nodes_taken: u32,
-    pub levels_taken: u32,
-}
-
-fn done_of(r: Reply) -> Done
-    ensures { λ d. ⌜ d ≡ doneOf r ⌝ }
-{
-    let s = r.settings;
-    Done {
-        number: r.number,
-        nodes_taken: s.nodes_taken,
-        levels_taken: s.levels_taken,
+        refused_six(s)
     }
 }
 
@@ -185,11 +231,11 @@ pub fn open_here(
             levels_taken: s.levels_taken,
         };
         if kind_no(k) <= 10 {
-            done_of(search_here(n, i, h, nodes, levels, workers))
+            search_here(n, i, h, nodes, levels, workers)
         } else {
-            done_of(move_here(n, i, h, nodes, levels, workers))
+            move_here(n, i, h, nodes, levels, workers)
         }
     } else {
-        done_of(refusal(6, s))
+        refused_six(s)
     }
 }

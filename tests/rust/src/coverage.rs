@@ -1,5 +1,6 @@
 // What all sequences together reached. What they had to reach and did not fails the test.
-use crate::model::{Areas, Kind, Kind::*, Settings, KINDS};
+use crate::bound::{BoundSeen, EXCHANGES};
+use crate::model::{Areas, Kind, Kind::*, ListsSeen, Settings, KINDS, LISTS};
 use crate::mutants::Chosen;
 use crate::pair::{Pair, OPERATIONS};
 
@@ -14,6 +15,8 @@ pub struct Total {
     sixes: [u64; 24],
     failed_sixes: [u64; 23],
     numbers: [[u64; 10]; 5],
+    lists: [ListsSeen; LISTS.len()],
+    bound: BoundSeen,
 }
 
 // the numbers that each operation can give, in the order of OPERATIONS
@@ -91,6 +94,12 @@ impl Total {
         for (x, y) in self.numbers.iter_mut().zip(&p.numbers) {
             add(x, y);
         }
+        for (x, y) in self.lists.iter_mut().zip(&s.lists) {
+            x.lists += y.lists;
+            x.done += y.done;
+            x.failed += y.failed;
+        }
+        self.bound.add(&p.bound);
     }
 
     // prints the coverage and gives what was never reached, or should not have been
@@ -105,6 +114,9 @@ impl Total {
             bad.push("a record that does not fit".to_string());
         }
         self.report_numbers(&mut bad);
+        self.report_exchanges();
+        self.report_lists(&mut bad);
+        bad.extend(self.bound.report());
         bad
     }
 
@@ -128,6 +140,25 @@ impl Total {
             bad.extend(otherwise(&name, &self.failed[k], follows));
             if follows.is_empty() != (self.failed_sixes[k] == 0) {
                 bad.push(format!("6 by the word met of {name}, {} times", self.failed_sixes[k]));
+            }
+        }
+    }
+
+    // that each kind was done and has failed is asked of what follows it, above
+    fn report_exchanges(&self) {
+        let times = |of: &[[u64; 23]; 23], k: Kind| of[k as usize].iter().sum::<u64>();
+        let kinds: Vec<String> = EXCHANGES.iter().map(|&k| format!("{k:?} {} and {}", times(&self.went, k), times(&self.failed, k))).collect();
+        let all = |of| EXCHANGES.iter().map(|&k| times(of, k)).sum::<u64>();
+        println!("exchanges done and failed: {} and {}; {}", all(&self.went), all(&self.failed), kinds.join(", "));
+    }
+
+    fn report_lists(&self, bad: &mut Vec<String>) {
+        for (k, (name, seen)) in LISTS.iter().zip(self.lists).enumerate() {
+            println!("lists {name}: {}, with exchanges done {}, with failed ones {}", seen.lists, seen.done, seen.failed);
+            // a refused list has none of either
+            let told = |n: u64| (n == 0) == (k == 0);
+            if seen.lists == 0 || !told(seen.done) || !told(seen.failed) {
+                bad.push(format!("lists {name}: {seen:?}"));
             }
         }
     }

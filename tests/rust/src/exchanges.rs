@@ -1,7 +1,7 @@
 // Document 02's failed exchanges in written races: "After a failed Put the call acts on that word as Read does, in the same turn; after a failed
 // Append or Close as Follow does; the same inside a Move." Each kind fails on each kind of word that it can meet; what it held stays held.
 use crate::coverage::Total;
-use crate::model::{Kind, Kind::*, FOUND, NEW, OPEN};
+use crate::model::{Exchanges, Kind, Kind::*, FOUND, NEW, OPEN};
 use crate::pair::{Compared, Op, Pair};
 use crate::sequences::{opened, settings, whole};
 use crate::words::{ANSWER, ANSWER_NODE, COUNT, KIND, LEVEL, NODE, RECORD};
@@ -92,6 +92,11 @@ fn run(race: &Race, total: &mut Total) -> Compared<()> {
         }
         meanwhile.iter().try_for_each(|&pixel| place(&mut p, pixel))?;
     }
+    // as a list the turn reports it
+    let mut copy = p.again();
+    let q = copy.run(Op::Turns(vec![1], 1))?;
+    assert_eq!((q.number, q.turns, q.exchanges), (0, 1, Exchanges { done: 0, failed: 1 }), "{}", race.name);
+    total.add(&copy);
     let mut wanted = record(&p);
     for &(word, v) in &race.then {
         wanted[word] = v;

@@ -1,13 +1,15 @@
 // Compares the table with a model coded apart, after every operation: reply, settings and every word of the areas; and what the text program prints
 // with a text program coded apart. What was never reached fails.
-//   leafdrum_tests [SEED [TURNS]]                  everything
-//   leafdrum_tests mutants [SEED]                  the wrong versions of the model alone
-//   leafdrum_tests orders|large|spoiled|six SEED   one random sequence again, as a difference names it
-//   leafdrum_tests program [SEED [TEXTS]]          the text program alone
-//   leafdrum_tests text SEED                       one random text again, as a difference names it
+//   leafdrum_tests [SEED [TURNS]]                      everything
+//   leafdrum_tests mutants [SEED]                      the wrong versions of the model alone
+//   leafdrum_tests orders|large|spoiled|six|cut SEED   one random sequence again, as a difference names it
+//   leafdrum_tests program [SEED [TEXTS]]              the text program alone
+//   leafdrum_tests text SEED                           one random text again, as a difference names it
+mod bound;
 mod coverage;
 mod examples;
 mod exchanges;
+mod lists;
 mod model;
 mod mutants;
 mod pair;
@@ -35,16 +37,21 @@ fn everything(seed: u64, turns: u64) -> Compared<Vec<String>> {
     let r = &mut Random::new(seed);
     examples::all(&mut total)?;
     exchanges::all(&mut total)?;
+    lists::all(seed, &mut total)?;
     refusals::all(seed, &mut total)?;
     sequences::written(&mut total)?;
     let mut missing = six::aimed(seed, &mut total)?;
-    while total.turns < turns {
+    // once at least
+    loop {
         for _ in 0..20 {
             sequences::orders(r.next(), &mut total)?;
         }
         sequences::large(r.next(), &mut total)?;
         for _ in 0..40 {
             sequences::spoiled(r.next(), &mut total)?;
+        }
+        if total.turns >= turns {
+            break;
         }
     }
     missing.extend(total.report());
@@ -65,6 +72,7 @@ fn main() {
         Some("mutants") => Ok(mutants::missed(number(1, SEED))),
         Some("orders") => one(sequences::orders, number(1, SEED)),
         Some("large") => one(sequences::large, number(1, SEED)),
+        Some("cut") => one(lists::cut, number(1, SEED)),
         Some("six") => six::aimed(number(1, SEED), &mut Total::default()),
         Some("program") => program::all(number(1, SEED), number(2, TEXTS)),
         Some("text") => program::one(number(1, SEED)),

@@ -1,4 +1,4 @@
-// A model of the table coded apart, from document 01, document 02's request 05 and docs/LAYOUT.md. Nodes and levels are records of any 32-bit values;
+// A model of the table coded apart, from document 01, document 02's requests 05 and 10 and docs/LAYOUT.md. Nodes and levels are records of any 32-bit values;
 // a worker is a type of its own, read from its words before an operation and written back after it. Nothing here is taken from the Rattle code.
 
 use crate::pair::Op;
@@ -21,7 +21,22 @@ pub struct Reply {
     pub answer: u32,
     pub node: u32,
     pub turns: u32,
+    pub exchanges: Exchanges,
     pub settings: Settings,
+}
+
+// How many exchanges were done, and how many failed.
+#[derive(Clone, Copy, Debug, Default, PartialEq, Eq)]
+pub struct Exchanges {
+    pub done: u32,
+    pub failed: u32,
+}
+
+impl std::ops::AddAssign for Exchanges {
+    fn add_assign(&mut self, more: Exchanges) {
+        self.done += more.done;
+        self.failed += more.failed;
+    }
 }
 
 // answers
@@ -172,6 +187,7 @@ enum Cell {
     Next(u32),
 }
 
+// What an exchange came to: done, or failed on the word that it met.
 #[derive(Clone, Copy)]
 enum Exchanged {
     Done,
@@ -187,6 +203,18 @@ pub struct Seen {
     pub nested: [u64; 8],
     pub sixes: [u64; 24],
     pub failed_sixes: [u64; 23],
+    pub lists: [ListsSeen; LISTS.len()],
+}
+
+// Lists of turns by what they met; a list can be of several sorts.
+pub const LISTS: [&str; 6] = ["refused", "ended by a 6", "ended by the limit", "ended at the list's end", "with idle entries", "with a full"];
+
+// how many, and in how many of them an exchange was done, and failed
+#[derive(Clone, Copy, Debug, Default)]
+pub struct ListsSeen {
+    pub lists: u64,
+    pub done: u64,
+    pub failed: u64,
 }
 
 impl Seen {
@@ -196,12 +224,15 @@ impl Seen {
     }
 }
 
+#[derive(Clone)]
 pub struct Model {
     pub settings: Settings,
     pub areas: Areas,
     pub seen: Seen,
-    // the word that the newest turn's exchange met, if it failed
-    pub met: Option<u32>,
+    // of all turns since the newest opening
+    pub exchanges: Exchanges,
+    // what the newest turn's exchange came to, if it made one; a turn that is refused by the word met has one here, and it counts for nothing
+    exchanged: Option<Exchanged>,
     // the newest turn's exchange would have been done, and was refused for want of room for a Move
     pub withheld: bool,
 }
@@ -218,15 +249,23 @@ fn yes(b: bool) -> Asked<()> {
 
 impl Model {
     pub fn new(settings: Settings, areas: Areas) -> Model {
-        Model { settings, areas, seen: Seen::default(), met: None, withheld: false }
+        Model { settings, areas, seen: Seen::default(), exchanges: Exchanges::default(), exchanged: None, withheld: false }
     }
 
-    fn reply(&self, number: u32, answer: u32, node: u32, turns: u32) -> Reply {
-        Reply { number, answer, node, turns, settings: self.settings }
+    // the word that the newest turn's exchange met, if it failed
+    pub fn met(&self) -> Option<u32> {
+        match self.exchanged {
+            Some(Exchanged::Met(word)) => Some(word),
+            _ => None,
+        }
+    }
+
+    fn reply(&self, number: u32, answer: u32, node: u32) -> Reply {
+        Reply { number, answer, node, turns: 0, exchanges: Exchanges::default(), settings: self.settings }
     }
 
     fn refuse(&self, number: u32) -> Reply {
-        self.reply(number, NOTHING, 0, 0)
+        self.reply(number, NOTHING, 0)
     }
 
     pub fn run(&mut self, op: &Op) -> Reply {
@@ -274,7 +313,8 @@ impl Model {
         self.areas.set_level(0, Level { previous: NONE, depth: 0, entries: [0; 8] });
         let words = 128 * self.settings.workers as usize;
         self.areas.workers[..words].fill(0);
-        self.reply(0, NOTHING, 0, 0)
+        self.exchanges = Exchanges::default();
+        self.reply(0, NOTHING, 0)
     }
 
     // the record of worker i, if it fits its layout
@@ -355,7 +395,7 @@ impl Model {
                 r.pixel = row * 4096 + column;
                 r.level = 0;
                 self.keep(i, &r);
-                self.reply(0, OPEN, 0, 0)
+                self.reply(0, OPEN, 0)
             }
         }
     }
@@ -370,10 +410,10 @@ impl Model {
         })();
         match asked {
             Err(n) => self.refuse(n),
-            Ok(r) if r.kind != Kind::Idle => self.reply(0, OPEN, 0, 0),
+            Ok(r) if r.kind != Kind::Idle => self.reply(0, OPEN, 0),
             Ok(r) => {
                 let node = if r.answer == NEW || r.answer == FOUND { r.answer_node } else { 0 };
-                self.reply(0, r.answer, node, 0)
+                self.reply(0, r.answer, node)
             }
         }
     }
@@ -388,9 +428,18 @@ impl Model {
         self.one(i)
     }
 
+    // The exchange of the newest turn, which was carried out; one that only reads, takes or writes makes none.
+    fn made(&self) -> Exchanges {
+        match self.exchanged {
+            None => Exchanges { done: 0, failed: 0 },
+            Some(Exchanged::Done) => Exchanges { done: 1, failed: 0 },
+            Some(Exchanged::Met(_)) => Exchanges { done: 0, failed: 1 },
+        }
+    }
+
     // one turn, questions 1 to 4 being answered yes
     fn one(&mut self, i: u32) -> Reply {
-        (self.met, self.withheld) = (None, false);
+        (self.exchanged, self.withheld) = (None, false);
         let r = match self.worker(i) {
             Err(n) => {
                 self.seen.sixes[23] += 1;
@@ -410,42 +459,63 @@ impl Model {
                 r.answer = FULL;
                 r.answer_node = 0;
                 self.keep(i, &r);
-                self.reply(9, FULL, 0, 0)
+                self.reply(9, FULL, 0)
             }
             Err(n) => {
                 self.seen.sixes[kind as usize] += 1;
-                self.seen.failed_sixes[kind as usize] += self.met.is_some() as u64;
+                self.seen.failed_sixes[kind as usize] += self.met().is_some() as u64;
                 self.refuse(n)
             }
             Ok((r, answer, node)) => {
-                let seen = if self.met.is_some() { &mut self.seen.failed } else { &mut self.seen.went };
+                let seen = if self.met().is_some() { &mut self.seen.failed } else { &mut self.seen.went };
                 seen[kind as usize][r.kind as usize] += 1;
                 self.seen.nested[r.moves.len()] += 1;
+                self.exchanges += self.made();
                 self.keep(i, &r);
-                self.reply(0, answer, node, 0)
+                self.reply(0, answer, node)
             }
         }
     }
 
     pub fn turns(&mut self, list: &[u8], limit: u32) -> Reply {
-        if let Err(n) = self.counts() {
+        let mut met = [false; LISTS.len()];
+        let reply = self.list(list, limit, &mut met);
+        for (seen, _) in self.seen.lists.iter_mut().zip(met).filter(|x| x.1) {
+            seen.lists += 1;
+            seen.done += (reply.exchanges.done > 0) as u64;
+            seen.failed += (reply.exchanges.failed > 0) as u64;
+        }
+        reply
+    }
+
+    // a list, and of LISTS what it met
+    fn list(&mut self, list: &[u8], limit: u32, met: &mut [bool; LISTS.len()]) -> Reply {
+        let asked = self.counts().and_then(|()| if list.iter().any(|&i| i as u32 >= self.settings.workers) { Err(4) } else { Ok(()) });
+        if let Err(n) = asked {
+            met[0] = true;
             return self.refuse(n);
         }
-        if list.iter().any(|&i| i as u32 >= self.settings.workers) {
-            return self.refuse(4);
-        }
-        let mut done = 0;
-        for &i in list {
-            if done == limit {
-                break;
-            }
+        let (mut number, mut turns, mut exchanges, mut left) = (0, 0, Exchanges::default(), list.iter());
+        while turns < limit && number == 0 {
+            let Some(&i) = left.next() else { break };
             match self.one(i as u32).number {
-                8 => {}
-                6 => return self.reply(6, NOTHING, 0, done),
-                _ => done += 1,
+                8 => met[4] = true,
+                6 => number = 6,
+                9 => (turns, met[5]) = (turns + 1, true),
+                _ => {
+                    turns += 1;
+                    exchanges += self.made();
+                }
             }
         }
-        self.reply(0, NOTHING, 0, done)
+        met[if number == 6 {
+            1
+        } else if left.len() > 0 {
+            2
+        } else {
+            3
+        }] = true;
+        Reply { turns, exchanges, ..self.reply(number, NOTHING, 0) }
     }
 
     fn level_taken(&self, g: u32) -> Asked<()> {
@@ -537,21 +607,21 @@ impl Model {
             Cell::Entry(g, e) => &mut self.areas.levels[10 * g as usize + 2 + e],
             Cell::Next(n) => &mut self.areas.nodes[2 * n as usize + 1],
         };
-        if *word == from {
+        let came_to = if *word == from { Exchanged::Done } else { Exchanged::Met(*word) };
+        if let Exchanged::Done = came_to {
             *word = to;
-            return Exchanged::Done;
         }
-        self.met = Some(*word);
-        Exchanged::Met(*word)
+        self.exchanged = Some(came_to);
+        came_to
     }
 
-    // With seven Moves open no exchange is made: R's next is only read. A word that would let the exchange be done, so that an eighth Move began, is
-    // refused; on another word it has failed.
+    // With seven Moves open R's next is only read. A word that would let the exchange be done, so that an eighth Move began, is refused; on another word it
+    // has failed, and counts as failed. No sequence from an opening comes here.
     fn without_room(&mut self, r: &Worker) -> Asked<Exchanged> {
         let word = self.areas.node(r.node).next;
         self.withheld = word == 2 * r.level;
         yes(!self.withheld)?;
-        self.met = Some(word);
+        self.exchanged = Some(Exchanged::Met(word));
         Ok(Exchanged::Met(word))
     }
 

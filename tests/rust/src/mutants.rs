@@ -1,9 +1,11 @@
 // Wrong versions of the model: each alters what the model leaves after one operation, and the comparison must find it. So a table that were wrong in
 // the same way would be found. There is at least one for each kind of turn, and several for each kind of exchange that fails; document 01's shortcuts
-// and wrong firmwares are among them.
+// and wrong firmwares are among them. Others are run alone as machines, of which the bound of failed exchanges must not hold.
+use crate::bound::{self, EXCHANGES};
 use crate::coverage::Total;
 use crate::exchanges;
-use crate::model::{Areas, Kind, Kind::*, Model, Reply, Settings, FOUND, FULL, KINDS, NEW, NOTHING, OPEN};
+use crate::lists;
+use crate::model::{Areas, Exchanges, Kind, Kind::*, Model, Reply, Settings, FOUND, FULL, KINDS, NEW, NOTHING, OPEN};
 use crate::pair::{Compared, Op};
 use crate::random::Random;
 use crate::sequences;
@@ -31,9 +33,16 @@ enum Of {
     Spoiled(&'static [Kind]),
     // on that memory, turns that it refused although their exchange would be done: for want of room for a Move
     Refused(&'static [Kind]),
+    // lists that were carried out or ended by a 6
+    Lists,
+    // the same, with one of these kinds counted wrongly
+    Counts(&'static [Kind]),
+    // the same on memory spoiled at question 6
+    SpoiledCounts(&'static [Kind]),
+    // lists that were refused as a whole
+    RefusedLists,
 }
 
-const EXCHANGES: &[Kind] = &[Put, Append, Close, SetPut, SetAppend, SetClose];
 // the exchanges of a search, which compare the pixel of a node met; those in a Move, which do not
 const SEARCHING: &[Kind] = &[Put, Append, Close];
 const MOVING: &[Kind] = &[SetPut, SetAppend, SetClose];
@@ -49,7 +58,7 @@ pub struct Chosen {
 
 impl Chosen {
     pub fn alter(&self, op: &Op, before: &Areas, given: Settings, model: &mut Model, reply: &mut Reply) {
-        let (turn, number, failed) = (matches!(op, Op::Turn(_)), reply.number, model.met.is_some());
+        let (turn, number, failed) = (matches!(op, Op::Turn(_)), reply.number, model.met().is_some());
         let altered = match self.mutant.of {
             Of::Operations => matches!(number, 0 | 9),
             Of::Turns(_) => turn && number == 0 && !failed,
@@ -57,6 +66,8 @@ impl Chosen {
             Of::Asked(_) => turn && matches!(number, 0 | 6) && failed,
             Of::Spoiled(_) => turn && number == 0 && !failed,
             Of::Refused(_) => turn && number == 6 && model.withheld,
+            Of::Lists | Of::Counts(_) | Of::SpoiledCounts(_) => matches!((op, number), (Op::Turns(..), 0 | 6)),
+            Of::RefusedLists => matches!((op, number), (Op::Turns(..), 1..=4)),
         };
         if !altered {
             return;
@@ -65,8 +76,8 @@ impl Chosen {
             Op::Start(i, ..) | Op::Turn(i) | Op::Last(i) => *i,
             Op::Open | Op::Turns(..) => 0,
         };
-        let mut x = Wrong { before, given, model, reply, worker };
-        if self.kind.is_some_and(|kind| x.was(KIND) != kind as u32) {
+        let mut x = Wrong { before, given, model, reply, worker, kind: self.kind };
+        if turn && self.kind.is_some_and(|kind| x.was(KIND) != kind as u32) {
             return;
         }
         (self.mutant.wrong)(op, &mut x);
@@ -75,8 +86,8 @@ impl Chosen {
 
     fn name(&self) -> String {
         match (self.mutant.of, self.kind) {
-            (Of::Failed(_) | Of::Asked(_) | Of::Spoiled(_) | Of::Refused(_), Some(kind)) => format!("{kind:?}: {}", self.mutant.name),
-            _ => self.mutant.name.to_string(),
+            (Of::Operations | Of::Turns(_) | Of::Lists | Of::RefusedLists, _) | (_, None) => self.mutant.name.to_string(),
+            (_, Some(kind)) => format!("{kind:?}: {}", self.mutant.name),
         }
     }
 }
@@ -88,7 +99,25 @@ struct Wrong<'a> {
     model: &'a mut Model,
     reply: &'a mut Reply,
     worker: u32,
+    // the kind that is altered here, of a wrong version for several
+    kind: Option<Kind>,
 }
+
+// An entry of a list: the kind of its turn and of the next one, the Moves before it, its number, the exchange that it made; whether one failed or was
+// withheld, also where the turn was refused.
+struct Entry {
+    kind: Option<Kind>,
+    then: Option<Kind>,
+    moves: u32,
+    number: u32,
+    made: Exchanges,
+    failed: bool,
+    withheld: bool,
+}
+
+const ONE_DONE: Exchanges = Exchanges { done: 1, failed: 0 };
+const ONE_FAILED: Exchanges = Exchanges { done: 0, failed: 1 };
+const NO_EXCHANGE: Exchanges = Exchanges { done: 0, failed: 0 };
 
 impl Wrong<'_> {
     fn view(&self) -> View<'_> {
@@ -156,7 +185,7 @@ impl Wrong<'_> {
     }
     // the word that the failed exchange met
     fn met(&self) -> u32 {
-        self.model.met.unwrap()
+        self.model.met().unwrap()
     }
     fn met_is_taken(&self) -> bool {
         self.met() / 2 < if is_node(self.met()) { self.given.nodes_taken } else { self.given.levels_taken }
@@ -255,6 +284,37 @@ impl Wrong<'_> {
         self.model.settings = self.given;
         *self.reply = self.model.run(op);
     }
+    // the entries that the list comes to, turn by turn, up to the one that met 6
+    fn entries(&self, op: &Op) -> Vec<Entry> {
+        let Op::Turns(list, limit) = op else { return vec![] };
+        let mut m = Model::new(self.given, self.before.clone());
+        let (mut entries, mut left) = (vec![], *limit);
+        for &i in list {
+            if left == 0 || entries.last().is_some_and(|e: &Entry| e.number == 6) {
+                break;
+            }
+            let word = |m: &Model, k: usize| m.areas.workers[RECORD * i as usize + k];
+            let kind = |m: &Model| KINDS.get(word(m, KIND) as usize).copied();
+            let (before, moves, made) = (kind(&m), word(&m, MOVES), m.exchanges);
+            let number = m.turn(i as u32).number;
+            let made = Exchanges { done: m.exchanges.done - made.done, failed: m.exchanges.failed - made.failed };
+            entries.push(Entry { kind: before, then: kind(&m), moves, number, made, failed: m.met().is_some(), withheld: m.withheld });
+            left -= (number != 8) as u32;
+        }
+        entries
+    }
+    // the list reports so much of each entry
+    fn counts(&mut self, op: &Op, of: impl Fn(&Entry) -> Exchanges) {
+        self.reply.exchanges = NO_EXCHANGE;
+        for e in self.entries(op) {
+            self.reply.exchanges += of(&e);
+        }
+    }
+    // the same, of turns of the kind that is altered here; of the others what they made
+    fn counts_here(&mut self, op: &Op, of: impl Fn(&Entry) -> Exchanges) {
+        let kind = self.kind;
+        self.counts(op, |e| if e.kind == kind { of(e) } else { e.made });
+    }
     // the entry of the call's pixel in the innermost Move's home, also inside another Move
     fn entry_of_the_call(&self) -> Place {
         let v = self.view();
@@ -276,6 +336,15 @@ const fn spoiled(kinds: &'static [Kind], name: &'static str, wrong: fn(&Op, &mut
 }
 const fn refused(kinds: &'static [Kind], name: &'static str, wrong: fn(&Op, &mut Wrong)) -> Mutant {
     Mutant { name, of: Of::Refused(kinds), wrong }
+}
+const fn list(name: &'static str, wrong: fn(&Op, &mut Wrong)) -> Mutant {
+    Mutant { name, of: Of::Lists, wrong }
+}
+const fn counts(kinds: &'static [Kind], name: &'static str, wrong: fn(&Op, &mut Wrong)) -> Mutant {
+    Mutant { name, of: Of::Counts(kinds), wrong }
+}
+const fn spoiled_counts(kinds: &'static [Kind], name: &'static str, wrong: fn(&Op, &mut Wrong)) -> Mutant {
+    Mutant { name, of: Of::SpoiledCounts(kinds), wrong }
 }
 const fn operation(name: &'static str, wrong: fn(&Op, &mut Wrong)) -> Mutant {
     Mutant { name, of: Of::Operations, wrong }
@@ -592,6 +661,88 @@ static MUTANTS: &[Mutant] = &[
             }
         }
     }),
+    // what a list reports of its exchanges
+    counts(EXCHANGES, "done, it is not counted", |op, x| x.counts_here(op, |e| if e.made == ONE_DONE { NO_EXCHANGE } else { e.made })),
+    counts(EXCHANGES, "failed, it is not counted", |op, x| x.counts_here(op, |e| if e.made == ONE_FAILED { NO_EXCHANGE } else { e.made })),
+    counts(EXCHANGES, "failed, it counts as done", |op, x| x.counts_here(op, |e| if e.made == ONE_FAILED { ONE_DONE } else { e.made })),
+    counts(EXCHANGES, "done, it counts as failed", |op, x| x.counts_here(op, |e| if e.made == ONE_DONE { ONE_FAILED } else { e.made })),
+    counts(EXCHANGES, "failed, it counts as both", |op, x| {
+        x.counts_here(op, |e| if e.made == ONE_FAILED { Exchanges { done: 1, failed: 1 } } else { e.made })
+    }),
+    counts(&[SetNext, MoveEnd], "what is written counts as an exchange", |op, x| x.counts_here(op, |_| ONE_DONE)),
+    counts(&[Take, TakeTail, Level, SetLevel], "what is taken counts as an exchange", |op, x| x.counts_here(op, |_| ONE_DONE)),
+    // these read the cell and go to the kind that reads it again
+    counts(&[Look, Tail, SetLook, SetTail], "another word than its level counts as failed", |op, x| {
+        x.counts_here(op, |e| if matches!(e.then, Some(Read | Follow | SetRead | SetFollow)) { ONE_FAILED } else { NO_EXCHANGE })
+    }),
+    counts(&[Take, TakeTail], "full counts as failed", |op, x| x.counts_here(op, |e| if e.number == 9 { ONE_FAILED } else { e.made })),
+    spoiled_counts(EXCHANGES, "refused by the word met, it counts as failed", |op, x| {
+        x.counts_here(op, |e| if e.failed { ONE_FAILED } else { e.made })
+    }),
+    spoiled_counts(EXCHANGES, "refused for another reason, it counts as failed", |op, x| {
+        x.counts_here(op, |e| if e.number == 6 && !e.failed { ONE_FAILED } else { e.made })
+    }),
+    spoiled_counts(&[SetClose], "refused for want of room, it counts as done", |op, x| {
+        x.counts_here(op, |e| if e.withheld { ONE_DONE } else { e.made })
+    }),
+    spoiled_counts(&[SetClose], "failed without room for a Move, it is not counted", |op, x| {
+        x.counts_here(op, |e| if e.moves == 7 { NO_EXCHANGE } else { e.made })
+    }),
+    list("list: a Move's exchanges are not counted", |op, x| {
+        x.counts(op, |e| if e.kind.is_some_and(|k| MOVING.contains(&k)) { NO_EXCHANGE } else { e.made })
+    }),
+    list("list: a Move's exchanges alone are counted", |op, x| {
+        x.counts(op, |e| if e.kind.is_some_and(|k| MOVING.contains(&k)) { e.made } else { NO_EXCHANGE })
+    }),
+    list("list: exchanges of all turns since the opening", |_, x| x.reply.exchanges = x.model.exchanges),
+    list("list: exchanges of its last turn alone", |op, x| x.reply.exchanges = x.entries(op).last().map_or(NO_EXCHANGE, |e| e.made)),
+    list("list: the turn at the limit is not counted", |op, x| {
+        if let (Op::Turns(_, limit), Some(last)) = (op, x.entries(op).last()) {
+            if x.reply.turns == *limit {
+                x.reply.exchanges.done -= last.made.done;
+                x.reply.exchanges.failed -= last.made.failed;
+            }
+        }
+    }),
+    list("list: a 6 drops what was counted", |_, x| {
+        if x.reply.number == 6 {
+            x.reply.exchanges = NO_EXCHANGE;
+        }
+    }),
+    list("list: a 6 counts as failed", |_, x| x.reply.exchanges.failed += (x.reply.number == 6) as u32),
+    list("list: idle entries count as failed", |op, x| x.counts(op, |e| if e.number == 8 { ONE_FAILED } else { e.made })),
+    list("list: done and failed exchanged", |_, x| x.reply.exchanges = Exchanges { done: x.reply.exchanges.failed, failed: x.reply.exchanges.done }),
+    list("list: done tells all exchanges", |_, x| x.reply.exchanges.done += x.reply.exchanges.failed),
+    Mutant {
+        name: "list: refused, it reports the exchanges since the opening",
+        of: Of::RefusedLists,
+        wrong: |_, x| x.reply.exchanges = x.model.exchanges,
+    },
+    operation("a single turn reports its exchange", |op, x| {
+        if let (Op::Turn(i), 0) = (op, x.reply.number) {
+            let own = Op::Turns(vec![*i as u8], 1);
+            x.reply.exchanges = x.entries(&own)[0].made;
+        }
+    }),
+    operation("a start reports the exchanges since the opening", |op, x| {
+        if matches!(op, Op::Start(..)) {
+            x.reply.exchanges = x.model.exchanges;
+        }
+    }),
+    operation("a last answer reports the exchanges since the opening", |op, x| {
+        if matches!(op, Op::Last(_)) {
+            x.reply.exchanges = x.model.exchanges;
+        }
+    }),
+];
+
+// Wrong machines, of which failed exchanges are not bounded: one that tries again without reading, and ones that exchange a cell that they read as used.
+static MACHINES: &[Mutant] = &[
+    failed(EXCHANGES, "failed, is tried again without reading", |_, x| x.undone(0, OPEN)),
+    turn(Look, "Look: a used entry goes to Take", |_, x| x.instead_of(Read, Take)),
+    turn(Tail, "Tail: another next goes to TakeTail", |_, x| x.instead_of(Follow, TakeTail)),
+    turn(SetLook, "SetLook: a used entry goes to SetPut", |_, x| x.instead_of(SetRead, SetPut)),
+    turn(SetTail, "SetTail: another next goes to SetAppend", |_, x| x.instead_of(SetFollow, SetAppend)),
 ];
 
 // Each wrong version through the same sequences until the first difference; gives the names of those never found.
@@ -608,15 +759,32 @@ pub fn missed(seed: u64) -> Vec<String> {
         }
     }
     println!("{} of {} wrong versions found", all.len() - missed.len(), all.len());
+    missed.extend(unbounded(seed));
+    missed
+}
+
+// The wrong machines that the bound, or a worker alone, does not tell from a right one.
+fn unbounded(seed: u64) -> Vec<String> {
+    let all: Vec<Chosen> = MACHINES.iter().flat_map(each).collect();
+    let mut missed = vec![];
+    for m in &all {
+        match bound::found(*m, seed) {
+            [Some(bound), Some(alone)] => {
+                println!("wrong machine found by the bound in table {bound}, by a worker alone in table {alone}: {}", m.name())
+            }
+            found => missed.push(format!("wrong machine found by the bound and by a worker alone {found:?}: {}", m.name())),
+        }
+    }
+    println!("{} of {} wrong machines found", all.len() - missed.len(), all.len());
     missed
 }
 
 // a wrong version of several kinds must be found at each of them
 fn each(mutant: &'static Mutant) -> Vec<Chosen> {
     match mutant.of {
-        Of::Operations => vec![Chosen { mutant, kind: None }],
+        Of::Operations | Of::Lists | Of::RefusedLists => vec![Chosen { mutant, kind: None }],
         Of::Turns(kind) => vec![Chosen { mutant, kind: Some(kind) }],
-        Of::Failed(kinds) | Of::Asked(kinds) | Of::Spoiled(kinds) | Of::Refused(kinds) => {
+        Of::Failed(kinds) | Of::Asked(kinds) | Of::Spoiled(kinds) | Of::Refused(kinds) | Of::Counts(kinds) | Of::SpoiledCounts(kinds) => {
             kinds.iter().map(|&kind| Chosen { mutant, kind: Some(kind) }).collect()
         }
     }
@@ -626,7 +794,7 @@ fn each(mutant: &'static Mutant) -> Vec<Chosen> {
 fn found_after(m: Chosen, seed: u64) -> Option<u64> {
     let mut total = Total::default();
     total.mutant = Some(m);
-    let spoiled = matches!(m.mutant.of, Of::Asked(_) | Of::Spoiled(_) | Of::Refused(_));
+    let spoiled = matches!(m.mutant.of, Of::Asked(_) | Of::Spoiled(_) | Of::Refused(_) | Of::SpoiledCounts(_));
     let difference = some_difference(&mut total, seed, spoiled).err()?;
     Some(total.turns + difference.turns)
 }
@@ -638,6 +806,7 @@ fn some_difference(total: &mut Total, seed: u64, spoiled: bool) -> Compared<()> 
     let r = &mut Random::new(seed);
     sequences::written(total)?;
     exchanges::all(total)?;
+    lists::all(seed, total)?;
     while total.turns < 300_000 {
         sequences::orders(r.next(), total)?;
     }

@@ -1,5 +1,6 @@
 // The table and the model side by side: every operation is done on both, then reply, settings and every word of the three areas are compared.
-use crate::model::{Areas, Model, Reply, Settings, FULL};
+use crate::bound::BoundSeen;
+use crate::model::{Areas, Exchanges, Model, Reply, Seen, Settings, FULL};
 use crate::mutants::Chosen;
 use crate::table::Table;
 use crate::words::{Place, ANSWER, ANSWER_NODE, KIND, MOVES, RECORD};
@@ -35,6 +36,7 @@ pub struct Difference {
 }
 pub type Compared<T> = Result<T, Difference>;
 
+#[derive(Clone)]
 pub struct Pair {
     pub table: Table,
     pub model: Model,
@@ -42,6 +44,9 @@ pub struct Pair {
     // how often each operation gave each number
     pub numbers: [[u64; 10]; 5],
     pub mutant: Option<Chosen>,
+    pub bound: BoundSeen,
+    // an opening was carried out, and no test has written to memory since
+    fresh: bool,
     // the areas before the newest operation
     before: Areas,
     steps: u64,
@@ -56,8 +61,17 @@ impl Pair {
             what: what.to_string(),
             numbers: [[0; 10]; 5],
             mutant: None,
+            bound: BoundSeen::default(),
+            fresh: false,
             steps: 0,
         }
+    }
+
+    // a copy to try something on, of which nothing has been seen yet
+    pub fn again(&self) -> Pair {
+        let mut p = Pair { numbers: [[0; 10]; 5], bound: BoundSeen::default(), ..self.clone() };
+        p.model.seen = Seen::default();
+        p
     }
 
     pub fn turns(&self) -> u64 {
@@ -68,21 +82,22 @@ impl Pair {
         Difference { text: format!("{}: step {}: {text}", self.what, self.steps), turns: self.turns() }
     }
 
-    // the same memory and settings for both
+    // the same memory and settings for both, as no operation left them
     pub fn set(&mut self, areas: Areas, settings: Settings) {
-        self.table.areas = areas.clone();
-        self.model.areas = areas;
-        self.table.settings = settings;
-        self.model.settings = settings;
+        self.edit(|a, s| (*a, *s) = (areas.clone(), settings));
     }
     pub fn put(&mut self, place: Place, v: u32) {
-        *place.of(&mut self.table.areas, &mut self.table.settings) = v;
-        *place.of(&mut self.model.areas, &mut self.model.settings) = v;
+        self.edit(|a, s| *place.of(a, s) = v);
+    }
+    pub fn edit(&mut self, change: impl Fn(&mut Areas, &mut Settings)) {
+        self.fresh = false;
+        change(&mut self.table.areas, &mut self.table.settings);
+        change(&mut self.model.areas, &mut self.model.settings);
     }
 
     pub fn run(&mut self, op: Op) -> Compared<Reply> {
         self.before.copy(&self.table.areas);
-        let given = self.table.settings;
+        let (given, made_before) = (self.table.settings, self.model.exchanges);
         let got = self.table.run(&op);
         let mut want = self.model.run(&op);
         if let Some(m) = self.mutant {
@@ -96,7 +111,21 @@ impl Pair {
         if !self.kept(&op, &got, given) {
             return Err(self.difference(format!("{op:?}: refused by {}, and something changed", got.number)));
         }
+        self.fresh |= matches!(op, Op::Open) && got.number == 0;
+        if self.fresh {
+            self.bounded(&op, got.number, given, made_before).map_err(|text| self.difference(format!("{op:?}: {text}")))?;
+        }
         Ok(got)
+    }
+
+    // what document 02 says of the exchanges of a sequence from a fresh table
+    fn bounded(&mut self, op: &Op, number: u32, given: Settings, made_before: Exchanges) -> Result<(), String> {
+        let made = self.model.exchanges;
+        if let (Op::Turn(i), 0 | 9) = (op, number) {
+            let own = Exchanges { done: made.done - made_before.done, failed: made.failed - made_before.failed };
+            self.bound.turn(&self.before, given, *i, own)?;
+        }
+        self.bound.bound(&self.table.areas, self.table.settings, made)
     }
 
     // "A refusal gives its number, the settings as they came, and unchanged memory. Number 9 alone makes the worker idle"; a list's 6 keeps its turns

@@ -1,11 +1,11 @@
 // The text program, run as a program: document 01's texts with its output, each number that a text can meet just inside and just outside its case, forms
 // of lines, lengths; then random texts, and wrong versions of the program coded apart.
-use crate::model::Kind;
+use crate::model::Kind::{self, Idle, Put};
 use crate::pair::Compared;
 use crate::random::Random;
 use crate::runs::{self, Case};
 use crate::sequences::settings;
-use crate::text::HEADER;
+use crate::text::{self, DOCUMENT, HEADER};
 use crate::text_coverage::Lines;
 use crate::text_mutants;
 use crate::texts::{self, Writer};
@@ -114,6 +114,9 @@ fn bench_cases() -> Vec<Case> {
 // The files in examples/; race.txt is the document's text.
 fn examples() -> Vec<Case> {
     assert_eq!(example("race.txt"), lines(RACE).into_bytes(), "examples/race.txt");
+    let seen = text::printed(&DOCUMENT, &example("retries.txt")).seen;
+    let [done, failed] = [seen.went, seen.failed].map(|of| of[Put as usize][Idle as usize]);
+    assert_eq!((done, failed, seen.turns()), (1, 3, 12), "exchanges done and failed of examples/retries.txt");
     let refused = "refused,2,8 refused,3,4 refused,4,5 refused,6,7 0,0,0,new,0 refused,10,8 refused,11,10 refused,12,10 refused,13,10 refused,14,10
         refused,15,10 1,0,0,found,0 end,1,1";
     vec![
@@ -125,6 +128,8 @@ fn examples() -> Vec<Case> {
         case("move.txt", example("move.txt"), "0,0,0,new,0 0,64,0,new,1 1,64,0,found,1 0,128,0,new,2 end,3,2"),
         case("refusals.txt", example("refusals.txt"), refused),
         case("full.txt", example("full.txt"), "0,0,0,new,0 0,1,1,full,- 0,512,0,full,- 0,0,0,found,0 end,1,1"),
+        // all four look, take and put; three Puts fail and find node 0, and three nodes are spare
+        case("retries.txt", example("retries.txt"), "0,0,0,new,0 1,0,0,found,0 2,0,0,found,0 3,0,0,found,0 end,4,1"),
     ]
 }
 

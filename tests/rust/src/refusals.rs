@@ -60,9 +60,7 @@ fn question_2(total: &mut Total) -> Compared<()> {
         for (words, number) in [(0, 2), (exact - 1, 2), (exact, 0), (exact + 1, 0), (exact + 200, 0)] {
             let mut p = opened(total, s, 0, 4, "question 2")?;
             assert_eq!(area(&mut p.table.areas, which).len(), exact);
-            for a in [&mut p.table.areas, &mut p.model.areas] {
-                area(a, which).resize(words, EXCESS);
-            }
+            p.edit(|a, _| area(a, which).resize(words, EXCESS));
             for op in each() {
                 gives(&mut p, op, number)?;
             }
@@ -78,9 +76,7 @@ fn question_3(total: &mut Total) -> Compared<()> {
     // 1 + 7 × floor(5 / 2) + 3 levels
     for (nodes, levels, number) in [(5, 1, 0), (6, 1, 3), (u32::MAX, 1, 3), (0, 0, 3), (0, 1, 0), (0, 18, 0), (0, 19, 3), (0, u32::MAX, 3)] {
         let mut p = opened(total, settings(3, 2, 5), 3, 4, "question 3")?;
-        for x in [&mut p.table.settings, &mut p.model.settings] {
-            (x.nodes_taken, x.levels_taken) = (nodes, levels);
-        }
+        p.edit(|_, s| (s.nodes_taken, s.levels_taken) = (nodes, levels));
         for op in each().into_iter().skip(1) {
             gives(&mut p, op, number)?;
         }
@@ -201,7 +197,7 @@ fn faulty(total: &Total, yes: usize, word: usize, v: u32) -> Compared<Pair> {
     if yes < 6 {
         p.put(Place::Workers(RECORD + word), v);
     }
-    for (a, s) in [(&mut p.table.areas, &mut p.table.settings), (&mut p.model.areas, &mut p.model.settings)] {
+    p.edit(|a, s| {
         if yes < 3 {
             s.nodes_taken = 6;
         }
@@ -211,7 +207,7 @@ fn faulty(total: &Total, yes: usize, word: usize, v: u32) -> Compared<Pair> {
         if yes < 1 {
             s.limit = 9;
         }
-    }
+    });
     Ok(p)
 }
 

@@ -1,4 +1,5 @@
 // Sequences of operations, random ones from a seed of their own: `leafdrum_tests NAME SEED` runs one again.
+use crate::bound;
 use crate::coverage::Total;
 use crate::model::{self, Areas, Kind, Settings, KINDS, NONE};
 use crate::pair::{Compared, Op, Pair};
@@ -63,7 +64,10 @@ pub fn large(seed: u64, total: &mut Total) -> Compared<()> {
 fn any_order(r: &mut Random, total: &mut Total, s: Settings, spread: u64, steps: u64, what: &str) -> Compared<()> {
     let (more, fill) = (r.pick(&[0, 0, 1, 7, 200]), r.next() as u32);
     let mut p = opened(total, s, more, fill, what)?;
-    for _ in 0..steps {
+    for k in 0..steps {
+        if k % (steps / 8) == steps / 16 {
+            bound::alone(&mut p)?;
+        }
         let i = r.below(s.workers as u64) as u32;
         match r.below(64) {
             0 => {

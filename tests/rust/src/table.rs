@@ -1,6 +1,6 @@
 // The table under test: the static library's functions, as include/leafdrum.h declares them. Nothing checks these declarations against the Rattle
 // source.
-use crate::model::{Areas, Reply, Settings};
+use crate::model::{Areas, Exchanges, Reply, Settings};
 use crate::pair::Op;
 
 #[repr(C)]
@@ -20,6 +20,8 @@ struct CReply {
     answer: u32,
     node: u32,
     turns: u32,
+    exchanges_done: u32,
+    exchanges_failed: u32,
     settings: CSettings,
 }
 
@@ -43,6 +45,7 @@ extern "C" {
     fn leafdrum_level_count(s: CSettings) -> u32;
 }
 
+#[derive(Clone)]
 pub struct Table {
     pub settings: Settings,
     pub areas: Areas,
@@ -55,7 +58,8 @@ fn to_c(s: &Settings) -> CSettings {
 fn from_c(r: CReply) -> Reply {
     let s = r.settings;
     let settings = Settings { workers: s.workers, limit: s.limit, nodes: s.nodes, nodes_taken: s.nodes_taken, levels_taken: s.levels_taken };
-    Reply { number: r.number, answer: r.answer, node: r.node, turns: r.turns, settings }
+    let exchanges = Exchanges { done: r.exchanges_done, failed: r.exchanges_failed };
+    Reply { number: r.number, answer: r.answer, node: r.node, turns: r.turns, exchanges, settings }
 }
 
 impl Table {

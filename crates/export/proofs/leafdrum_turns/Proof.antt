@@ -1,6 +1,6 @@
 -- `export::leafdrum_turns` meets its contract.
 -- Relies on Exported.
-use Rattle.export.proofs.Exported.{export-steps}
+use Rattle.export.proofs.Exported.{list-steps}
 use borrow.Author.Needs.{needs}
 use Rattle.export.proofs.leafdrum_turns.Statement.{statement}
 use Rattle.export.proofs.leafdrum_turns.Tie as tie
@@ -21,7 +21,7 @@ same-length-3 : tie.Need-same-length-3
 same-length-3 c = search needs
 
 returns : tie.Need-returns
-returns c = search (needs, export-steps)
+returns c = search (needs, list-steps)
 
 pub leafdrum-turns-spec : {M : Type 1} → statement M
 leafdrum-turns-spec =

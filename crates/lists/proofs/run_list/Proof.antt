@@ -1,6 +1,6 @@
 -- `lists::run_list` meets its contract.
 -- Relies on the ways through a list of turns.
-use Prim.Native.Nat.{_≤_, _-_}
+use Prim.Native.Nat.{_+_, _≤_, _-_}
 use mathlib.Core.Path.{_≡_}
 use mathlib.Core.Bool.{true}
 use lib.Dec.{ltb}
@@ -10,7 +10,7 @@ use Rattle.areas.specs.Memory.{areas}
 use Rattle.rules.specs.Lists.{state}
 use Rattle.lists.specs.Cut.{run, countedBy, ranOf, ranList}
 use Rattle.rules.proofs.Three.{Three}
-use Rattle.lists.proofs.Ways.{begin-three, begin-list, goes-left, goes-zero, of-three, entry-below, entry-keeps, list-more, list-all, list-over}
+use Rattle.lists.proofs.Ways.{begin-three, begin-list, goes-left, goes-zero, of-three, entry-below, entry-fits, entry-keeps, list-more, list-all, list-over}
 use borrow.Author.Needs.{needs}
 use Rattle.lists.proofs.run_list.Statement.{statement}
 use Rattle.lists.proofs.run_list.Tie as tie
@@ -22,8 +22,9 @@ Inv-loop s list limit nodes₀ levels₀ workers₀ t₀ k₀ nodes levels worke
     × (length levels ≡ length levels₀)
     × (length workers ≡ length workers₀)
     × (every (λ i. ltb i (s .workers)) list ≡ true)
+    × (t .done + t .failed + t .left ≤ 4294967295)
     × Three 3 (s .workers) (state (countedBy s t) (areas nodes levels workers))
-    × (ranList 3 (drop k list) (ranOf s t (areas nodes levels workers)) ≡ ranList 3 list (run 0 (state s (areas nodes₀ levels₀ workers₀)) limit))
+    × (ranList 3 (drop k list) (ranOf s t (areas nodes levels workers)) ≡ ranList 3 list (run 0 (state s (areas nodes₀ levels₀ workers₀)) limit 0 0))
 
 abbrev μ-loop : tie.MeasureT-loop
 μ-loop s list limit nodes₀ levels₀ workers₀ t₀ k₀ nodes levels workers t k = length list - k
@@ -58,7 +59,7 @@ entry-requires c κs = let w = c .before .before .before in
     let d = e .before .before in
     let v = d .before .loop .inv in
     let o = e .before .is-over .ensures in
-    (goes-left _ o (e .if1 .left), (goes-zero _ o (e .if1 .left), (of-three 3 _ _ _ _ (v .5), entry-below _ _ (v .4) (w .wide .ensures) (d .loop-test .taken))))
+    (goes-left _ o (e .if1 .left), (v .5, (goes-zero _ o (e .if1 .left), (of-three 3 _ _ _ _ (v .6), entry-below _ _ (v .4) (w .wide .ensures) (d .loop-test .taken)))))
 
 add-k : tie.Need-add-k Inv-loop μ-loop
 add-k c = search needs
@@ -70,7 +71,8 @@ loop-again : tie.Need-loop-again Inv-loop μ-loop
 loop-again c = let b = c .before .before .before .before .before .before in
     let w = b .before .before .before .before in
     let d = w .before .before .before .before in
-    (search needs, search needs, search needs, search needs, search needs, entry-keeps 3 _ _ _ _ _ _ (b .entry .ensures) (d .before .loop .inv .5), list-more 3 _ _ _ (b .entry .ensures) (w .wide .ensures) (d .before .loop .inv .6) (d .loop-test .taken))
+    let v = d .before .loop .inv in
+    (search needs, search needs, search needs, search needs, search needs, entry-fits 3 _ _ _ _ _ _ _ (b .entry .ensures) (v .5), entry-keeps 3 _ _ _ _ _ _ (b .entry .ensures) (v .6), list-more 3 _ _ _ (b .entry .ensures) (w .wide .ensures) (v .7) (d .loop-test .taken))
 
 same-length-4 : tie.Need-same-length-4 Inv-loop μ-loop
 same-length-4 c = search needs

@@ -12,8 +12,8 @@ move-fits-requires c κs = search needs
 move-turn-requires : tie.Need-move-turn-requires
 move-turn-requires c κs = (search needs, (search needs, (search (needs, via), search needs)))
 
-refusal-requires : tie.Need-refusal-requires
-refusal-requires c κs = search needs
+refused-six-requires : tie.Need-refused-six-requires
+refused-six-requires c κs = search needs
 
 same-length : tie.Need-same-length
 same-length c = search needs
@@ -39,7 +39,7 @@ move-here-spec =
     (tie.spec
     move-fits-requires
     move-turn-requires
-    refusal-requires
+    refused-six-requires
     same-length
     same-length-2
     same-length-3

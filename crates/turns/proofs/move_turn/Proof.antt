@@ -11,14 +11,17 @@ load-requires c κs = search needs
 turn-requires : tie.Need-turn-requires
 turn-requires c κs = search (needs, loaded-count, loaded-least)
 
-refusal-requires : tie.Need-refusal-requires
-refusal-requires c κs = search needs
+refused-six-requires : tie.Need-refused-six-requires
+refused-six-requires c κs = search needs
 
 store-requires : tie.Need-store-requires
 store-requires c κs = search needs
 
-replied-requires : tie.Need-replied-requires
-replied-requires c κs = search needs
+came-to-requires : tie.Need-came-to-requires
+came-to-requires c κs = search needs
+
+turn-done-requires : tie.Need-turn-done-requires
+turn-done-requires c κs = search needs
 
 same-length : tie.Need-same-length
 same-length c = search needs
@@ -33,7 +36,7 @@ returns : tie.Need-returns
 returns c = let b = c .before .before .before .before .before .before in
     let d = b .before .before .before in
     let p = d .before .before .before .before .before .pre in
-    move-refused 3 _ _ _ _ _ _ _ _ (c .refusal .ensures) (b .turn .ensures) (d .load .ensures) (c .before .if1 .taken) (p .1 .0) (p .0) (p .1 .1 .0) (p .1 .1 .1)
+    move-refused 3 _ _ _ _ _ _ _ _ (c .refused-six .ensures) (b .turn .ensures) (d .load .ensures) (c .before .if1 .taken) (p .1 .0) (p .0) (p .1 .1 .0) (p .1 .1 .1)
 
 same-length-4 : tie.Need-same-length-4
 same-length-4 c = search needs
@@ -45,12 +48,13 @@ same-length-6 : tie.Need-same-length-6
 same-length-6 c = search needs
 
 returns-2 : tie.Need-returns-2
-returns-2 c = let e = c .before .before .before in
-    let f = e .before .before .before .before in
+returns-2 c = let x = c .before in
+    let e = x .before .before .before in
+    let f = e .before .before .before .before .before .before in
     let b = f .before .before .before .before .before in
     let d = b .before .before .before in
     let p = d .before .before .before .before .before .pre in
-    move-done 3 _ _ _ _ _ _ _ _ (c .replied .ensures) (e .store .ensures) (b .turn .ensures) (d .load .ensures) (f .if1 .left) (p .1 .0) (p .0) (p .1 .1 .0) (p .1 .1 .1)
+    move-done 3 _ _ _ _ _ _ _ _ (c .turn-done .ensures) (x .came-to .ensures) (e .store .ensures) (b .turn .ensures) (d .load .ensures) (f .if1 .left) (p .1 .0) (p .0) (p .1 .1 .0) (p .1 .1 .1)
 
 pub move-turn-spec : {M : Type 1} → statement M
 move-turn-spec =
@@ -58,9 +62,10 @@ move-turn-spec =
     (tie.spec
     load-requires
     turn-requires
-    refusal-requires
+    refused-six-requires
     store-requires
-    replied-requires
+    came-to-requires
+    turn-done-requires
     same-length
     same-length-2
     same-length-3

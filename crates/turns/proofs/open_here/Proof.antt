@@ -1,7 +1,7 @@
 -- `turns::open_here` meets its contract.
 -- Relies on the ways through a turn and the number of a head's kind.
 use Rattle.record.proofs.Tests.{kind-low, kind-high}
-use Rattle.turns.proofs.Ways.{head-open, did-here, did-outside}
+use Rattle.turns.proofs.Ways.{head-open, did-outside}
 use borrow.Author.Needs.{needs}
 use Rattle.turns.proofs.open_here.Statement.{statement}
 use Rattle.turns.proofs.open_here.Tie as tie
@@ -18,20 +18,11 @@ kind-no-requires c κs = search needs
 search-here-requires : tie.Need-search-here-requires
 search-here-requires c κs = (search needs, (search needs, (search (needs, head-open), search (needs, kind-low))))
 
-done-of-requires : tie.Need-done-of-requires
-done-of-requires c κs = search needs
-
 move-here-requires : tie.Need-move-here-requires
 move-here-requires c κs = (search needs, (search needs, search (needs, kind-high)))
 
-done-of-requires-2 : tie.Need-done-of-requires-2
-done-of-requires-2 c κs = search needs
-
-refusal-requires : tie.Need-refusal-requires
-refusal-requires c κs = search needs
-
-done-of-requires-3 : tie.Need-done-of-requires-3
-done-of-requires-3 c κs = search needs
+refused-six-requires : tie.Need-refused-six-requires
+refused-six-requires c κs = search needs
 
 same-length : tie.Need-same-length
 same-length c = search needs
@@ -43,7 +34,7 @@ same-length-3 : tie.Need-same-length-3
 same-length-3 c = search needs
 
 returns : tie.Need-returns
-returns c = search (needs, did-here)
+returns c = search needs
 
 same-length-4 : tie.Need-same-length-4
 same-length-4 c = search needs
@@ -55,7 +46,7 @@ same-length-6 : tie.Need-same-length-6
 same-length-6 c = search needs
 
 returns-2 : tie.Need-returns-2
-returns-2 c = search (needs, did-here)
+returns-2 c = search needs
 
 same-length-7 : tie.Need-same-length-7
 same-length-7 c = search needs
@@ -71,11 +62,8 @@ open-here-spec =
     load-requires
     kind-no-requires
     search-here-requires
-    done-of-requires
     move-here-requires
-    done-of-requires-2
-    refusal-requires
-    done-of-requires-3
+    refused-six-requires
     same-length
     same-length-2
     same-length-3

@@ -11,8 +11,8 @@ search-fits-requires c κs = search needs
 search-turn-requires : tie.Need-search-turn-requires
 search-turn-requires c κs = search needs
 
-refusal-requires : tie.Need-refusal-requires
-refusal-requires c κs = search needs
+refused-six-requires : tie.Need-refused-six-requires
+refused-six-requires c κs = search needs
 
 same-length : tie.Need-same-length
 same-length c = search needs
@@ -38,7 +38,7 @@ search-here-spec =
     (tie.spec
     search-fits-requires
     search-turn-requires
-    refusal-requires
+    refused-six-requires
     same-length
     same-length-2
     same-length-3

@@ -1,0 +1,174 @@
+-- Failed exchanges are at most placing workers − 1 times the done ones, and a worker that has the turns to itself fails none unless it is doomed.
+-- Relies on who is doomed after an event, and on sums over operations.
+use Prim.Native.Nat.{ℕ, zero, suc, _+_, _*_, _-_, _≤_, _<_}
+use mathlib.Core.Path.{_≡_, refl, sym, ap, _∙_}
+use mathlib.Core.Logic.{_≢_, inl, inr}
+use mathlib.Core.List.{List, [], _∷_}
+use native.Mathlib.Nat.{mul-suc}
+use native.Mathlib.Decide.{ℕ-discrete, decLt}
+use native.Mathlib.Omega.{arith}
+use Rattle.words.specs.Choice.{pick}
+use Rattle.words.proofs.Choice.{pick-both, both-left}
+use Rattle.settings.specs.Sizes.{maxWorkers, question1}
+use Rattle.settings.specs.declared.Settings.{Settings}
+use Rattle.settings.proofs.Laws.{within-true}
+use Rattle.areas.specs.Memory.{Areas}
+use Rattle.rules.specs.Operations.{opening, start, turn}
+use Rattle.rules.specs.Lists.{State, after}
+use Rattle.rules.specs.Calls.{Event, turns, happens, stateAfter}
+use Rattle.rules.specs.Alone.{turnsOf}
+use Rattle.rules.specs.Sequences.{Operation, leftBy, sinceOpening}
+use Rattle.rules.specs.Exchanges.{doneIn, failedIn, total, doomed, failures, successes}
+use Rattle.rules.specs.ExchangeBound.{placing, failedSince, doneSince, Bounded, BoundStatement}
+use Rattle.trie.proofs.Update.{upd, upd-same}
+use Rattle.trie.proofs.Dooms.{dooms}
+use Rattle.trie.proofs.Advance.{numbers}
+use Rattle.trie.proofs.Whole.{Worker}
+use Rattle.rules.proofs.Dims.{Width, width-3}
+use Rattle.rules.proofs.Invariant.{WorldOf, Fine, at}
+use Rattle.rules.proofs.Refused.{refuses-opening, refuses-start}
+use Rattle.rules.proofs.Carried.{opening-done, start-done}
+use Rattle.rules.proofs.Starting.{start-yes, starter, fine-started}
+use Rattle.rules.proofs.Opened.{opened, fine-opened}
+use Rattle.rules.proofs.Theorem.{opening-yes}
+use Rattle.rules.proofs.OneTurn.{turn-leaves}
+use Rattle.rules.proofs.TurnEvent.{turn-open}
+use Rattle.rules.proofs.FineQuestions.{yes-1, worker-of}
+use Rattle.rules.proofs.Operated.{Comes, comes-opened, comes-all}
+use Rattle.rules.proofs.Exchanges.{none-failed}
+use Rattle.rules.proofs.ExchangeCounts.{counts}
+use Rattle.rules.proofs.ExchangeEvents.{doomedAmong, turn-counted, event-counted, none-doomed}
+use Rattle.rules.proofs.ExchangeSums.{sum-opened}
+
+-- the sum of one event and of those after it
+sums : (p f d f′ d′ D D′ : ℕ) → f′ ≤ (p - 1) * d′ + D′ → (d ≡ 0 → f + D′ ≤ D) → (d ≢ 0 → (d ≡ 1) × (f ≡ 0) × (suc D′ ≤ p)) → f + f′ ≤ (p - 1) * (d + d′) + D
+sums p f d f′ d′ D D′ h a b = by (ℕ-discrete d 0)
+  where
+    by : Dec (d ≡ 0) → f + f′ ≤ (p - 1) * (d + d′) + D
+    by (yes z) = let k = a z in rw z (omega arith)
+    by (no z) = let (one, none, l) = b z in let m = mul-suc (p - 1) d′ in rw one (omega arith)
+
+-- one placing worker
+one-fails : (p f d : ℕ) → f ≤ (p - 1) * d + 0 → p ≡ 1 → f ≡ 0
+one-fails p f d b e = let c : f ≤ (1 - 1) * d + 0 = rw e at b in omega arith
+
+none-of : {f d : ℕ} → f ≤ d → d ≡ 0 → f ≡ 0
+none-of l z = omega arith
+
+-- where starts and turns lead, and the bound on the way; who is doomed now may fail still
+record Run (w : ℕ) (s₀ : Settings) (es : List Event) (x : State) (D : ℕ) : Type 0 where
+  world : WorldOf w s₀
+  workers : ℕ → Worker
+  fine : Fine w s₀ (stateAfter w es x) world workers
+  bound : failures w es x ≤ (placing s₀ - 1) * successes w es x + D
+
+runs : (w : ℕ) (s₀ : Settings) (es : List Event) (x : State) (W : WorldOf w s₀) (ws : ℕ → Worker) → Fine w s₀ x W ws → Run w s₀ es x (doomedAmong (placing s₀) W ws)
+unfolding total stateAfter placing
+runs w s₀ [] x W ws F = record { world = W; workers = ws; fine = F; bound = omega arith }
+runs w s₀ (e ∷ es) x W ws F =
+    let c = event-counted F e in
+    let r = runs w s₀ es (after (happens w e x)) (c .world) (c .workers) (c .fine) in
+    record { world = r .world; workers = r .workers; fine = r .fine; bound = sums (s₀ .workers) _ _ _ _ _ _ (r .bound) (c .where-none) (c .where-one) }
+
+-- after an opening nobody is doomed
+opened-runs : (w : ℕ) → Width w → (s : Settings) (a : Areas) → opening w s a .reply .number ≡ 0 → (es : List Event) → Run w s es (after (opening w s a)) 0
+opened-runs w width s a z es =
+    let y = refuses-opening w s a .numbered .carried .0 z in
+    let q = opening-yes w s a y in
+    let r = runs w s es _ _ _ (fine-opened width s a (q .0) (q .1)) in
+    let n = none-doomed (opened width s a (q .0) (q .1)) (placing s) in
+    rw (opening-done w s a z) (record { world = r .world; workers = r .workers; fine = r .fine; bound = let b = r .bound in omega arith })
+
+-- A worker of the table that has the turns to itself fails at most as often as it is doomed.
+inside-fails : (w : ℕ) (s₀ : Settings) (i k : ℕ) (x : State) (W : WorldOf w s₀) (ws : ℕ → Worker) → Fine w s₀ x W ws → failures w (turnsOf i k) x ≤ dooms W (ws i .key) (ws i .act)
+unfolding total happens
+inside-fails w s₀ i zero x W ws F = omega arith
+inside-fails w s₀ i (suc k) x W ws F =
+    let c = turn-counted F i in
+    let o = c .own in
+    let n = inside-fails w s₀ i k (after (turn w (x .settings) i (x .areas))) (c .world) (c .workers) (c .fine) in
+    omega arith
+
+-- a number that is no worker's: every turn is refused and leaves the state
+outside-fails : (w : ℕ) (s₀ : Settings) (i k : ℕ) (x : State) (W : WorldOf w s₀) (ws : ℕ → Worker) → Fine w s₀ x W ws → (i < s₀ .workers → ⊥) → failures w (turnsOf i k) x ≡ 0
+unfolding total happens
+outside-fails w s₀ i zero x W ws F n = refl
+outside-fails w s₀ i (suc k) x W ws F n =
+    let h : turn w (x .settings) i (x .areas) .reply .number ≢ 0 = λ z. n (worker-of F (turn-open w x i (inl refl) z .below)) in
+    let g : turn w (x .settings) i (x .areas) .reply .number ≢ 9 = λ z. n (worker-of F (turn-open w x i (inr refl) z .below)) in
+    let e = none-failed w i x h in
+    let r : failures w (turnsOf i k) (after (happens w (turns i) x)) ≡ failures w (turnsOf i k) x = ap (failures w (turnsOf i k)) (turn-leaves w (x .settings) i (x .areas) h g) in
+    let u = outside-fails w s₀ i k x W ws F n in
+    omega arith
+
+module _ {w : ℕ} (width : Width w) where
+  -- whoever is not doomed by the words is not doomed in the theory
+  alone-fails : {s₀ : Settings} {x : State} {W : WorldOf w s₀} {ws : ℕ → Worker} → Fine w s₀ x W ws → (i k : ℕ) → failures w (turnsOf i k) x ≤ pick (doomed w i x) 1 0
+  unfolding doomed
+  alone-fails {s₀} {x} {W} {ws} F i k =
+      pick-both (λ n. failures w (turnsOf i k) x ≤ n) (doomed w i x)
+      (λ e. by (decLt i (s₀ .workers)) 1 (λ l. numbers W (ws i .key) (ws i .act) .dooms-le))
+      (λ e. by (decLt i (s₀ .workers)) 0 (λ l. let z = counts (at F i l) .doomed-is e in omega arith))
+    where
+      by : Dec (i < s₀ .workers) → (n : ℕ) → (i < s₀ .workers → dooms W (ws i .key) (ws i .act) ≤ n) → failures w (turnsOf i k) x ≤ n
+      by (yes l) n d = omega (arith, inside-fails w s₀ i k x W ws F, d l)
+      by (no l) n d = omega (arith, outside-fails w s₀ i k x W ws F l)
+
+  -- the number of placing workers stays
+  same-placing : {s₀ : Settings} {x : State} {W : WorldOf w s₀} {ws : ℕ → Worker} → Fine w s₀ x W ws → placing (x .settings) ≡ placing s₀
+  unfolding placing
+  same-placing F = F .table .same .workers-is
+
+  -- there is one
+  some-placing : {s₀ : Settings} {x : State} {W : WorldOf w s₀} {ws : ℕ → Worker} → Fine w s₀ x W ws → placing (x .settings) ≢ 0
+  unfolding placing question1
+  some-placing {x = x} F z = let b = within-true (x .settings .workers) maxWorkers (both-left _ _ (yes-1 F)) .low in omega arith
+
+  -- a start leaves its worker free
+  started-fails : {s₀ : Settings} {x : State} {W : WorldOf w s₀} {ws : ℕ → Worker} → Fine w s₀ x W ws → (i row column k : ℕ) → start w (x .settings) i row column (x .areas) .reply .number ≡ 0 → failures w (turnsOf i k) (after (start w (x .settings) i row column (x .areas))) ≡ 0
+  started-fails {s₀} {x} {W} {ws} F i row column k z =
+      let y = start-yes w x i row column (refuses-start w (x .settings) i row column (x .areas) .numbered .carried .0 z) in
+      let h = worker-of F (y .below) in
+      let c = starter F i row column h (y .inside) in
+      rw (start-done w (x .settings) i row column (x .areas) z)
+      (none-of (inside-fails w s₀ i k _ W (upd ws i c) (fine-started F i row column h (y .inside))) (rw (upd-same ws i c) refl))
+
+  -- of a state that came of a carried out opening
+  bounded-at : {x : State} → Comes w (record { began = x; events = [] }) x → (os : List Operation) → Bounded w x os
+  bounded-at {x} c₀ os =
+      record {
+        bound = rw (failed, done, same-placing fine) (omega (arith, r .bound));
+        none = λ e. absurd (some-placing fine e);
+        single = λ e. rw failed (one-fails _ _ _ (r .bound) (sym (same-placing fine) ∙ e));
+        alone = λ i k. alone-fails fine i k;
+        started = λ i row column k z. started-fails fine i row column k z;
+      }
+    where
+      c : Comes w (sinceOpening w os x) (leftBy w os x)
+      c = comes-all os c₀
+
+      es : List Event
+      es = sinceOpening w os x .events
+
+      y : State
+      y = after (opening w (c .settings) (c .areas))
+
+      r : Run w (c .settings) es y 0
+      r = opened-runs w width (c .settings) (c .areas) (c .carried) es
+
+      fine : Fine w (c .settings) (leftBy w os x) (r .world) (r .workers)
+      fine = rw (← c .ends, c .began) (r .fine)
+
+      failed : failedSince w os x ≡ failures w es y
+      failed = sum-opened failedIn w os x c₀ ∙ ap (total failedIn w es) (c .began)
+
+      done : doneSince w os x ≡ successes w es y
+      done = sum-opened doneIn w os x c₀ ∙ ap (total doneIn w es) (c .began)
+
+-- over every width whose digits fit the pixel numbers
+pub exchanges-bounded : (w : ℕ) → Width w → BoundStatement w
+exchanges-bounded w width s a z os = bounded-at width (comes-opened w s a z) os
+
+-- document 01's table
+pub exchanges-bounded-3 : BoundStatement 3
+exchanges-bounded-3 = exchanges-bounded 3 width-3
