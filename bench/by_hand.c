@@ -7,7 +7,7 @@
 #define HAND(name) by_hand_##name
 #endif
 
-enum { MAXPIX = 16777215 };
+enum { MAXPIX = 16777215, RECORD = 256 };
 enum kind { IDLE, LOOK, TAKE, PUT, READ, TAIL, TAKETAIL, APPEND, LEVEL, CLOSE, FOLLOW, CHAINHEAD, CHAINNEXT, SETNEXT, SETLOOK, SETPUT, SETREAD, SETTAIL, SETAPPEND, SETLEVEL, SETCLOSE, SETFOLLOW, MOVEEND };
 /* the six kinds that exchange a word, one bit each */
 enum { EXCHANGES = 1 << PUT | 1 << APPEND | 1 << CLOSE | 1 << SETPUT | 1 << SETAPPEND | 1 << SETCLOSE };
@@ -16,23 +16,34 @@ enum { W_KIND, W_PIXEL, W_LEVEL, W_NODE, W_COUNT, W_HNODE, W_HLEVEL, W_ANSWER, W
 typedef leafdrum_settings S;
 typedef leafdrum_reply R;
 
-static uint32_t levels_of(const S *s) { return 1 + 7 * (s->nodes / s->limit) + s->workers; }
+/* What the settings give, found once a call or list: the last depth (24 / width - 1; 0 of what is no width), the words of a level, how many levels there are. */
+typedef struct { uint32_t width, last, words, levels; } D;
 
-uint32_t HAND(level_count)(S s) {
-    if (s.workers - 1 > 15 || s.limit - 1 > 7 || s.nodes - 1 > 4095) return 0;
-    return levels_of(&s);
+static inline int dims(const S *s, D *d) {
+    static const uint8_t last[] = {[2] = 11, [3] = 7, [4] = 5, [6] = 3};
+    d->width = s->width;
+    d->last = s->width < sizeof last ? last[s->width] : 0;
+    if (d->last == 0 || s->workers - 1 > 15 || s->limit - 1 > 7 || s->nodes - 1 > 4095) return 0;
+    d->words = 2 + (1u << d->width);
+    d->levels = 1 + d->last * (s->nodes / s->limit) + s->workers;
+    return 1;
 }
 
-static uint32_t sizes(const S *s, size_t nl, size_t ll, size_t wl) {
-    if (s->workers - 1 > 15 || s->limit - 1 > 7 || s->nodes - 1 > 4095) return 1;
-    if (nl < 2 * (size_t)s->nodes || ll < 10 * (size_t)levels_of(s) || wl < 128 * (size_t)s->workers) return 2;
+uint32_t HAND(level_count)(S s) {
+    D d;
+    return dims(&s, &d) ? d.levels : 0;
+}
+
+static inline uint32_t sizes(const S *s, D *d, size_t nl, size_t ll, size_t wl) {
+    if (!dims(s, d)) return 1;
+    if (nl < 2 * (size_t)s->nodes || ll < (size_t)d->words * d->levels || wl < RECORD * (size_t)s->workers) return 2;
     return 0;
 }
 
-static uint32_t counts(const S *s, size_t nl, size_t ll, size_t wl) {
-    uint32_t q = sizes(s, nl, ll, wl);
+static inline uint32_t counts(const S *s, D *d, size_t nl, size_t ll, size_t wl) {
+    uint32_t q = sizes(s, d, nl, ll, wl);
     if (q) return q;
-    if (s->nodes_taken > s->nodes || s->levels_taken - 1 >= levels_of(s)) return 3;
+    if (s->nodes_taken > s->nodes || s->levels_taken - 1 >= d->levels) return 3;
     return 0;
 }
 
@@ -41,14 +52,14 @@ static R reply(uint32_t number, uint32_t answer, uint32_t node, S s) {
     return r;
 }
 
-static int fits(const S *s, const uint32_t *w) {
+static inline int fits(const S *s, const D *d, const uint32_t *w) {
     uint32_t k = w[W_KIND];
     if (k == IDLE) return w[W_ANSWER] <= 3;
     if (k > MOVEEND || w[W_PIXEL] > MAXPIX) return 0;
     if (((k >= TAIL && k <= FOLLOW) || (k >= SETTAIL && k <= SETFOLLOW)) && w[W_COUNT] - 1 > s->limit) return 0;
     if (k <= FOLLOW) return w[W_MOVES] == 0;
     uint32_t m = w[W_MOVES];
-    if (m - 1 > 6) return 0;
+    if (m - 1 >= d->last) return 0;
     for (uint32_t j = 0; j + 1 < m; j++)
         if (w[18 + 11 * j] - 1 >= s->limit) return 0;
     uint32_t c = w[18 + 11 * (m - 1)];
@@ -56,25 +67,27 @@ static int fits(const S *s, const uint32_t *w) {
 }
 
 R HAND(open)(S s, LEAFDRUM_AREAS) {
-    uint32_t q = sizes(&s, node_words, level_words, worker_words);
+    D d;
+    uint32_t q = sizes(&s, &d, node_words, level_words, worker_words);
     (void)nodes;
     if (q) return reply(q, 0, 0, s);
     s.nodes_taken = 0;
     s.levels_taken = 1;
     levels[0] = UINT32_MAX;
-    memset(levels + 1, 0, 9 * sizeof *levels);
-    memset(workers, 0, 128 * (size_t)s.workers * sizeof *workers);
+    memset(levels + 1, 0, (d.words - 1) * sizeof *levels);
+    memset(workers, 0, RECORD * (size_t)s.workers * sizeof *workers);
     return reply(0, 0, 0, s);
 }
 
 R HAND(start)(S s, uint32_t i, uint32_t row, uint32_t column, LEAFDRUM_AREAS) {
-    uint32_t q = counts(&s, node_words, level_words, worker_words);
+    D d;
+    uint32_t q = counts(&s, &d, node_words, level_words, worker_words);
     (void)nodes, (void)levels;
     if (q) return reply(q, 0, 0, s);
     if (i >= s.workers) return reply(4, 0, 0, s);
     if (row > 4095 || column > 4095) return reply(5, 0, 0, s);
-    uint32_t *w = workers + 128 * i;
-    if (!fits(&s, w)) return reply(6, 0, 0, s);
+    uint32_t *w = workers + RECORD * i;
+    if (!fits(&s, &d, w)) return reply(6, 0, 0, s);
     if (w[W_KIND] != IDLE) return reply(7, 0, 0, s);
     w[W_KIND] = LOOK;
     w[W_PIXEL] = row * 4096 + column;
@@ -84,12 +97,13 @@ R HAND(start)(S s, uint32_t i, uint32_t row, uint32_t column, LEAFDRUM_AREAS) {
 }
 
 R HAND(last)(S s, uint32_t i, LEAFDRUM_AREAS) {
-    uint32_t q = counts(&s, node_words, level_words, worker_words);
+    D d;
+    uint32_t q = counts(&s, &d, node_words, level_words, worker_words);
     (void)nodes, (void)levels;
     if (q) return reply(q, 0, 0, s);
     if (i >= s.workers) return reply(4, 0, 0, s);
-    uint32_t *w = workers + 128 * i;
-    if (!fits(&s, w)) return reply(6, 0, 0, s);
+    uint32_t *w = workers + RECORD * i;
+    if (!fits(&s, &d, w)) return reply(6, 0, 0, s);
     if (w[W_KIND] != IDLE) return reply(0, 4, 0, s);
     return reply(0, w[W_ANSWER], w[W_ANSWER] == 1 || w[W_ANSWER] == 2 ? w[W_ANODE] : 0, s);
 }
@@ -99,8 +113,9 @@ R HAND(last)(S s, uint32_t i, LEAFDRUM_AREAS) {
 
 static inline int taken(const S *s, uint32_t r) { return r & 1 ? r >> 1 < s->nodes_taken : r >> 1 < s->levels_taken; }
 
-/* the word of pixel p's entry in level g */
-static inline uint32_t *entry(uint32_t *levels, uint32_t g, uint32_t p) { return levels + 10 * g + 2 + (p >> 3 * (7 - levels[10 * g + 1]) & 7); }
+/* level g; the word of pixel p's entry in it, where its depth is one */
+static inline uint32_t *level(const D *d, uint32_t *levels, uint32_t g) { return levels + d->words * g; }
+static inline uint32_t *entry(const D *d, uint32_t *level, uint32_t p) { return level + 2 + (p >> d->width * (d->last - level[1]) & ((1u << d->width) - 1)); }
 
 /* "exchange x from a to b": gives the word that x held, which is a where it was done */
 static inline uint32_t exchange(uint32_t *x, uint32_t a, uint32_t b) {
@@ -109,9 +124,9 @@ static inline uint32_t exchange(uint32_t *x, uint32_t a, uint32_t b) {
     return word;
 }
 
-static int back(const S *s, const uint32_t *levels, uint32_t t, uint32_t g, uint32_t *child) {
-    for (int n = 0; n < 7; n++) {
-        uint32_t p = levels[10 * t];
+static int back(const S *s, const D *d, uint32_t *levels, uint32_t t, uint32_t g, uint32_t *child) {
+    for (uint32_t n = 0; n < d->last; n++) {
+        uint32_t p = level(d, levels, t)[0];
         if (p == g) { *child = t; return 1; }
         if (p >= s->levels_taken) return 0;
         t = p;
@@ -128,15 +143,15 @@ static inline void set_last(uint32_t *w, const uint32_t *m) {
 }
 
 /* one turn of an open worker whose record fits: 0, 6 or 9; tells whether it had an exchange that failed */
-static uint32_t act(S *s, uint32_t *w, uint32_t *nodes, uint32_t *levels, uint32_t *answer, uint32_t *node, uint32_t *failed) {
-    uint32_t k = w[W_KIND], h = w[W_LEVEL], *x, word, n, g, *m;
+static uint32_t act(S *s, const D *d, uint32_t *w, uint32_t *nodes, uint32_t *levels, uint32_t *answer, uint32_t *node, uint32_t *failed) {
+    uint32_t k = w[W_KIND], h = w[W_LEVEL], *at, *x, word, n, g, *m;
     *answer = 4;
     *node = 0;
     *failed = 0;
     switch (k) {
     case LOOK:
-        NEED(h < s->levels_taken && levels[10 * h + 1] <= 7);
-        word = *entry(levels, h, w[W_PIXEL]);
+        NEED(h < s->levels_taken && (at = level(d, levels, h))[1] <= d->last);
+        word = *entry(d, at, w[W_PIXEL]);
         NEED(taken(s, word));
         w[W_KIND] = word == 2 * h ? TAKE : READ;
         return 0;
@@ -156,8 +171,8 @@ static uint32_t act(S *s, uint32_t *w, uint32_t *nodes, uint32_t *levels, uint32
         w[W_KIND] = k == TAKE ? PUT : APPEND;
         return 0;
     case PUT:
-        NEED(h < s->levels_taken && levels[10 * h + 1] <= 7 && w[W_HNODE] - 1 < s->nodes_taken);
-        x = entry(levels, h, w[W_PIXEL]);
+        NEED(h < s->levels_taken && (at = level(d, levels, h))[1] <= d->last && w[W_HNODE] - 1 < s->nodes_taken);
+        x = entry(d, at, w[W_PIXEL]);
         goto place;
     case APPEND:
         NEED(h < s->levels_taken && w[W_NODE] < s->nodes_taken && w[W_HNODE] - 1 < s->nodes_taken);
@@ -170,8 +185,8 @@ static uint32_t act(S *s, uint32_t *w, uint32_t *nodes, uint32_t *levels, uint32
         *answer = 1, *node = n;
         return 0;
     case READ:
-        NEED(h < s->levels_taken && levels[10 * h + 1] <= 7);
-        word = *entry(levels, h, w[W_PIXEL]);
+        NEED(h < s->levels_taken && (at = level(d, levels, h))[1] <= d->last);
+        word = *entry(d, at, w[W_PIXEL]);
         goto met;
     case FOLLOW:
         NEED(h < s->levels_taken && w[W_NODE] < s->nodes_taken);
@@ -191,7 +206,7 @@ static uint32_t act(S *s, uint32_t *w, uint32_t *nodes, uint32_t *levels, uint32
             }
         } else {
             g = word >> 1;
-            if (k != READ && k != PUT) NEED(back(s, levels, g, h, &g));
+            if (k != READ && k != PUT) NEED(back(s, d, levels, g, h, &g));
             w[W_LEVEL] = g, w[W_KIND] = LOOK;
         }
         return 0;
@@ -206,15 +221,16 @@ static uint32_t act(S *s, uint32_t *w, uint32_t *nodes, uint32_t *levels, uint32
         return 0;
     case LEVEL:
     case SETLEVEL:
-        NEED(h < s->levels_taken && w[W_HLEVEL] <= s->levels_taken && levels[10 * h + 1] <= 6);
+        NEED(h < s->levels_taken && w[W_HLEVEL] <= s->levels_taken && (at = level(d, levels, h))[1] < d->last);
         if (w[W_HLEVEL]) g = w[W_HLEVEL] - 1;
         else {
-            NEED(s->levels_taken < levels_of(s));
+            NEED(s->levels_taken < d->levels);
             g = s->levels_taken++;
         }
-        levels[10 * g + 1] = levels[10 * h + 1] + 1;
-        levels[10 * g] = h;
-        for (int e = 2; e < 10; e++) levels[10 * g + e] = 2 * g;
+        x = level(d, levels, g);
+        x[1] = at[1] + 1;
+        x[0] = h;
+        for (uint32_t e = 2; e < d->words; e++) x[e] = 2 * g;
         w[W_HLEVEL] = g + 1;
         w[W_KIND] = k == LEVEL ? CLOSE : SETCLOSE;
         return 0;
@@ -223,12 +239,12 @@ static uint32_t act(S *s, uint32_t *w, uint32_t *nodes, uint32_t *levels, uint32
         NEED(h < s->levels_taken && w[W_NODE] < s->nodes_taken && w[W_HLEVEL] - 1 < s->levels_taken);
         x = nodes + 2 * w[W_NODE] + 1;
         /* without room for a Move it is only read: it may fail, but not be done */
-        word = w[W_MOVES] < 7 ? exchange(x, 2 * h, 2 * (w[W_HLEVEL] - 1)) : *x;
+        word = w[W_MOVES] < d->last ? exchange(x, 2 * h, 2 * (w[W_HLEVEL] - 1)) : *x;
         if (word != 2 * h) {
             if (k == CLOSE) goto met;
             goto set_met;
         }
-        NEED(w[W_MOVES] < 7);
+        NEED(w[W_MOVES] < d->last);
         w[W_MOVES]++;
         m = mv(w);
         m[0] = h, m[1] = w[W_HLEVEL] - 1;
@@ -244,8 +260,8 @@ static uint32_t act(S *s, uint32_t *w, uint32_t *nodes, uint32_t *levels, uint32
             NEED(n < s->nodes_taken && nodes[2 * n] <= MAXPIX);
             word = nodes[2 * n];
         }
-        NEED(m[0] < s->levels_taken && levels[10 * m[0] + 1] <= 7);
-        x = entry(levels, m[0], word);
+        NEED(m[0] < s->levels_taken && (at = level(d, levels, m[0]))[1] <= d->last);
+        x = entry(d, at, word);
         if (k == MOVEEND) {
             NEED(m[1] < s->levels_taken);
             *x = 2 * m[1];
@@ -279,8 +295,8 @@ static uint32_t act(S *s, uint32_t *w, uint32_t *nodes, uint32_t *levels, uint32
     case SETPUT:
         m = mv(w);
         n = last_node(m);
-        NEED(n < s->nodes_taken && h < s->levels_taken && levels[10 * h + 1] <= 7 && nodes[2 * n] <= MAXPIX);
-        x = entry(levels, h, nodes[2 * n]);
+        NEED(n < s->nodes_taken && h < s->levels_taken && (at = level(d, levels, h))[1] <= d->last && nodes[2 * n] <= MAXPIX);
+        x = entry(d, at, nodes[2 * n]);
         if (k == SETPUT) goto set;
         word = *x;
         if (k == SETREAD) goto set_met;
@@ -309,7 +325,7 @@ static uint32_t act(S *s, uint32_t *w, uint32_t *nodes, uint32_t *levels, uint32
             w[W_COUNT] = k == SETREAD || k == SETPUT ? 1 : w[W_COUNT] > s->limit ? s->limit + 1 : w[W_COUNT] + 1;
         } else {
             g = word >> 1;
-            if (k != SETREAD && k != SETPUT) NEED(back(s, levels, g, h, &g));
+            if (k != SETREAD && k != SETPUT) NEED(back(s, d, levels, g, h, &g));
             w[W_LEVEL] = g, w[W_KIND] = SETNEXT;
         }
         return 0;
@@ -318,24 +334,26 @@ static uint32_t act(S *s, uint32_t *w, uint32_t *nodes, uint32_t *levels, uint32
 }
 
 R HAND(turn)(S s, uint32_t i, LEAFDRUM_AREAS) {
-    uint32_t q = counts(&s, node_words, level_words, worker_words), answer, node, failed;
+    D d;
+    uint32_t q = counts(&s, &d, node_words, level_words, worker_words), answer, node, failed;
     if (q) return reply(q, 0, 0, s);
     if (i >= s.workers) return reply(4, 0, 0, s);
-    uint32_t *w = workers + 128 * i;
-    if (!fits(&s, w)) return reply(6, 0, 0, s);
+    uint32_t *w = workers + RECORD * i;
+    if (!fits(&s, &d, w)) return reply(6, 0, 0, s);
     if (w[W_KIND] == IDLE) return reply(8, 0, 0, s);
-    q = act(&s, w, nodes, levels, &answer, &node, &failed);
+    q = act(&s, &d, w, nodes, levels, &answer, &node, &failed);
     return q == 6 ? reply(6, 0, 0, s) : reply(q, answer, node, s);
 }
 
 R HAND(turns)(S s, const uint8_t *list, size_t count, uint32_t limit, LEAFDRUM_AREAS) {
-    uint32_t q = counts(&s, node_words, level_words, worker_words), answer, node, failed, done = 0, exchanges = 0, failures = 0;
+    D d;
+    uint32_t q = counts(&s, &d, node_words, level_words, worker_words), answer, node, failed, done = 0, exchanges = 0, failures = 0;
     if (q) return reply(q, 0, 0, s);
     for (size_t k = 0; k < count; k++)
         if (list[k] >= s.workers) return reply(4, 0, 0, s);
     for (size_t k = 0; k < count && done < limit; k++) {
-        uint32_t *w = workers + 128 * list[k], kind = w[W_KIND];
-        q = fits(&s, w) ? kind == IDLE ? 8 : act(&s, w, nodes, levels, &answer, &node, &failed) : 6;
+        uint32_t *w = workers + RECORD * list[k], kind = w[W_KIND];
+        q = fits(&s, &d, w) ? kind == IDLE ? 8 : act(&s, &d, w, nodes, levels, &answer, &node, &failed) : 6;
         if (q == 6) break;
         if (q == 8) continue;
         done++;

@@ -3,12 +3,12 @@
 #include "../include/leafdrum.h"
 #include <stdio.h>
 
-enum { WORKERS = 4, LIMIT = 4, NODES = 8, LEVELS = 1 + 7 * (NODES / LIMIT) + WORKERS };
-static uint32_t nodes[2 * NODES], levels[10 * LEVELS], workers[128 * WORKERS];
+enum { WORKERS = 4, LIMIT = 4, NODES = 8, WIDTH = LEAFDRUM_WIDTH_3 };
+static uint32_t nodes[LEAFDRUM_NODE_AREA(NODES)], levels[LEAFDRUM_LEVEL_AREA(WORKERS, LIMIT, NODES, WIDTH)], workers[LEAFDRUM_WORKER_AREA(WORKERS)];
 #define AREAS nodes, sizeof nodes / 4, levels, sizeof levels / 4, workers, sizeof workers / 4
 
 int main(void) {
-    leafdrum_settings s = {WORKERS, LIMIT, NODES, 0, 0};
+    leafdrum_settings s = {WORKERS, LIMIT, NODES, 0, 0, WIDTH};
     leafdrum_reply r = leafdrum_open(s, AREAS);
     if (r.number != 0) return printf("opening refused by %u\n", r.number), 1;
     /* two workers report the pixel at row 0, column 0; their turns interleave: worker 1 comes second, meets worker 0's node and finds it */

@@ -15,7 +15,12 @@ typedef struct {
     uint32_t nodes;        /* 1 to 4096 */
     uint32_t nodes_taken;  /* set by leafdrum_open */
     uint32_t levels_taken; /* set by leafdrum_open */
+    uint32_t width;        /* digit width in bits, one of the four below */
 } leafdrum_settings;
+
+/* The digit widths. A level has an entry for each value of a digit, 4, 8, 16 or 64, and the table at most 12, 8, 6 or 4 levels one below another: a narrow width needs
+   fewer words, a wide one has fewer levels on the way to a pixel. Another width is refusal 1. */
+enum { LEAFDRUM_WIDTH_2 = 2, LEAFDRUM_WIDTH_3 = 3, LEAFDRUM_WIDTH_4 = 4, LEAFDRUM_WIDTH_6 = 6 };
 
 /* answers */
 enum { LEAFDRUM_NONE = 0, LEAFDRUM_NEW = 1, LEAFDRUM_FOUND = 2, LEAFDRUM_FULL = 3, LEAFDRUM_OPEN = 4 };
@@ -30,8 +35,14 @@ typedef struct {
     leafdrum_settings settings;
 } leafdrum_reply;
 
-/* Three lent areas, each a pointer and its length in words. Words needed: nodes 2 * nodes, levels 10 * leafdrum_level_count(settings),
-   workers 128 * workers. Longer areas are accepted, their excess is not touched. */
+/* Three lent areas, each a pointer and its length in words. Words needed, as constants for an array's length where the arguments are constants; they hold
+   for settings in range, and the sums fit 32 bits. Longer areas are accepted, their excess is not touched. */
+#define LEAFDRUM_WORKER_WORDS 256 /* of one worker, at every width */
+#define LEAFDRUM_LEVEL_WORDS(width) (2 + (1 << (width))) /* of one level */
+#define LEAFDRUM_LEVEL_COUNT(workers, limit, nodes, width) (1 + (24 / (width) - 1) * ((nodes) / (limit)) + (workers)) /* as leafdrum_level_count */
+#define LEAFDRUM_NODE_AREA(nodes) (2 * (nodes))
+#define LEAFDRUM_LEVEL_AREA(workers, limit, nodes, width) (LEAFDRUM_LEVEL_WORDS(width) * LEAFDRUM_LEVEL_COUNT(workers, limit, nodes, width))
+#define LEAFDRUM_WORKER_AREA(workers) (LEAFDRUM_WORKER_WORDS * (workers))
 #define LEAFDRUM_AREAS uint32_t *nodes, size_t node_words, uint32_t *levels, size_t level_words, uint32_t *workers, size_t worker_words
 
 leafdrum_reply leafdrum_open(leafdrum_settings settings, LEAFDRUM_AREAS);

@@ -1,4 +1,5 @@
-/* Every function, field and constant of include/leafdrum.h against the library: with a header that says something else this does not build, or fails when run.
+/* Every function, field, constant and macro of include/leafdrum.h against the library: with a header that says something else this does not build, or fails
+   when run. Numbers stand here as documents 01 and 02 have them; the macros are asked only where they are compared.
    Relies on the header and the library alone. Builds as C99 and as C++20; tests/headers.py builds it both ways, and with wrong headers. */
 #include "../include/leafdrum.h"
 #include "../include/leafdrum.h" /* once more: without its guard it does not build */
@@ -13,10 +14,14 @@ leafdrum_reply (*const list_of_turns)(leafdrum_settings, const uint8_t *, size_t
 leafdrum_reply (*const last_answer)(leafdrum_settings, uint32_t, AREA_TYPES) = leafdrum_last;
 uint32_t (*const level_count)(leafdrum_settings) = leafdrum_level_count;
 
-/* words needed for 3 workers, chain limit 2, 11 nodes: 39 levels */
-enum { NODE_WORDS = 2 * 11, LEVEL_WORDS = 10 * 39, WORKER_WORDS = 128 * 3 };
-static uint32_t nodes[NODE_WORDS], levels[LEVEL_WORDS], workers[WORKER_WORDS];
+/* words needed for 3 workers, chain limit 2, 11 nodes at width 3: 39 levels; the arrays are for the largest table, the levels at width 6 */
+enum { NODE_WORDS = 2 * 11, LEVEL_WORDS = 10 * 39, WORKER_WORDS = 256 * 3 };
+static uint32_t nodes[8192], levels[812130], workers[4096];
 #define AREAS nodes, NODE_WORDS, levels, LEVEL_WORDS, workers, WORKER_WORDS
+
+/* the four widths with document 02's numbers */
+static const struct { uint32_t width, level_words, last_depth; } widths[] = {{2, 6, 11}, {3, 10, 7}, {4, 18, 5}, {6, 66, 3}};
+enum { WIDTHS = 4 };
 
 static int failed;
 static void same(const char *what, size_t is, size_t should) {
@@ -33,7 +38,8 @@ static void structs(void) {
     FIELD(leafdrum_settings, nodes, 8);
     FIELD(leafdrum_settings, nodes_taken, 12);
     FIELD(leafdrum_settings, levels_taken, 16);
-    same("size of leafdrum_settings", sizeof(leafdrum_settings), 20);
+    FIELD(leafdrum_settings, width, 20);
+    same("size of leafdrum_settings", sizeof(leafdrum_settings), 24);
     FIELD(leafdrum_reply, number, 0);
     FIELD(leafdrum_reply, answer, 4);
     FIELD(leafdrum_reply, node, 8);
@@ -41,12 +47,16 @@ static void structs(void) {
     FIELD(leafdrum_reply, exchanges_done, 16);
     FIELD(leafdrum_reply, exchanges_failed, 20);
     same("place of settings", offsetof(leafdrum_reply, settings), 24);
-    same("size of leafdrum_reply", sizeof(leafdrum_reply), 44);
+    same("size of leafdrum_reply", sizeof(leafdrum_reply), 48);
+}
+
+static leafdrum_settings wide(uint32_t crew, uint32_t limit, uint32_t count, uint32_t nodes_taken, uint32_t levels_taken, uint32_t width) {
+    leafdrum_settings s = {.workers = crew, .limit = limit, .nodes = count, .nodes_taken = nodes_taken, .levels_taken = levels_taken, .width = width};
+    return s;
 }
 
 static leafdrum_settings with(uint32_t crew, uint32_t limit, uint32_t count, uint32_t nodes_taken, uint32_t levels_taken) {
-    leafdrum_settings s = {.workers = crew, .limit = limit, .nodes = count, .nodes_taken = nodes_taken, .levels_taken = levels_taken};
-    return s;
+    return wide(crew, limit, count, nodes_taken, levels_taken, 3);
 }
 
 /* Each field by what the library asks of it alone; with the bounds exchanged between two fields another number comes. */
@@ -58,6 +68,7 @@ static void fields(void) {
     same("nodes given back", r.settings.nodes, 11);
     same("nodes_taken given back", r.settings.nodes_taken, 7);
     same("levels_taken given back", r.settings.levels_taken, 9);
+    same("width given back", r.settings.width, 3);
     same("levels of 3 workers, limit 2, 11 nodes", leafdrum_level_count(with(3, 2, 11, 0, 0)), 39);
     same("levels of the largest table", leafdrum_level_count(with(16, 8, 4096, 0, 0)), 3601);
     same("levels of 17 workers", leafdrum_level_count(with(17, 8, 4096, 0, 0)), 0);
@@ -67,6 +78,70 @@ static void fields(void) {
     same("12 nodes taken of 11", leafdrum_last(with(3, 2, 11, 12, 39), 2, AREAS).number, 3);
     same("40 levels taken of 39", leafdrum_last(with(3, 2, 11, 11, 40), 2, AREAS).number, 3);
     same("no level taken", leafdrum_last(with(3, 2, 11, 0, 0), 2, AREAS).number, 3);
+    for (uint32_t width = 0; width < 40; width++) {
+        int taken = width == 2 || width == 3 || width == 4 || width == 6;
+        same("a width taken", leafdrum_level_count(wide(3, 2, 11, 0, 0, width)) != 0, (size_t)taken);
+        same("number of another width", leafdrum_open(wide(3, 2, 11, 0, 0, width), nodes, 0, levels, 0, workers, 0).number, taken ? 2 : 1);
+    }
+}
+
+/* The words that an opening writes at each width: level 0, and all of each worker's; LEAFDRUM_LEVEL_WORDS and LEAFDRUM_WORKER_AREA are as many. */
+static void opened(void) {
+    for (int k = 0; k < WIDTHS; k++) {
+        size_t written = 0;
+        for (size_t j = 0; j < 100; j++) levels[j] = 5;
+        for (size_t j = 0; j < 4096; j++) workers[j] = 5;
+        same("number of an opening at a width", leafdrum_open(wide(3, 2, 11, 0, 0, widths[k].width), nodes, 8192, levels, 812130, workers, 4096).number, 0);
+        while (written < 100 && levels[written] != 5) written++;
+        same("words of level 0 written", written, widths[k].level_words);
+        same("LEAFDRUM_LEVEL_WORDS", LEAFDRUM_LEVEL_WORDS(widths[k].width), written);
+        for (written = 0; written < 4096 && workers[written] != 5;) written++;
+        same("words of 3 workers written", written, 3 * 256);
+        same("LEAFDRUM_WORKER_AREA", LEAFDRUM_WORKER_AREA(3), written);
+        same("LEAFDRUM_WORKER_WORDS", 3 * LEAFDRUM_WORKER_WORDS, written);
+    }
+}
+
+/* Each area macro is the least length that an opening takes: with a word less it is refused by 2. */
+static void lent(leafdrum_settings s) {
+    const size_t n = LEAFDRUM_NODE_AREA(s.nodes), l = LEAFDRUM_LEVEL_AREA(s.workers, s.limit, s.nodes, s.width), w = LEAFDRUM_WORKER_AREA(s.workers);
+    same("open with the macros' areas", leafdrum_open(s, nodes, n, levels, l, workers, w).number, 0);
+    same("open with a word less than LEAFDRUM_NODE_AREA", leafdrum_open(s, nodes, n - 1, levels, l, workers, w).number, 2);
+    same("open with a word less than LEAFDRUM_LEVEL_AREA", leafdrum_open(s, nodes, n, levels, l - 1, workers, w).number, 2);
+    same("open with a word less than LEAFDRUM_WORKER_AREA", leafdrum_open(s, nodes, n, levels, l, workers, w - 1).number, 2);
+}
+
+/* Every settings in range, up to the first that differs; the areas at some of them. */
+static void macros(void) {
+    for (int k = 0; k < WIDTHS; k++)
+        for (uint32_t crew = 1; crew <= 16; crew++)
+            for (uint32_t limit = 1; limit <= 8; limit++)
+                for (uint32_t count = 1; count <= 4096 && !failed; count++) {
+                    leafdrum_settings s = wide(crew, limit, count, 0, 0, widths[k].width);
+                    size_t found = leafdrum_level_count(s);
+                    same("level count", found, 1 + widths[k].last_depth * (count / limit) + crew);
+                    same("LEAFDRUM_LEVEL_COUNT", LEAFDRUM_LEVEL_COUNT(crew, limit, count, s.width), found);
+                    if ((count == 1 || count == 11 || count == 4096) && (crew == 1 || crew == 16)) lent(s);
+                }
+}
+
+/* As constants for an array's length, and in an expression; an argument may be one too. */
+enum { OF_NODES = LEAFDRUM_NODE_AREA(11), OF_LEVELS = LEAFDRUM_LEVEL_AREA(3, 2, 11, LEAFDRUM_WIDTH_3), OF_WORKERS = LEAFDRUM_WORKER_AREA(3) };
+
+static void expressions(void) {
+    const uint32_t yes = 1;
+    same("LEAFDRUM_NODE_AREA as a constant", OF_NODES, NODE_WORDS);
+    same("LEAFDRUM_LEVEL_AREA as a constant", OF_LEVELS, LEVEL_WORDS);
+    same("LEAFDRUM_WORKER_AREA as a constant", OF_WORKERS, WORKER_WORDS);
+    same("LEAFDRUM_LEVEL_WORDS in a quotient", 100 / LEAFDRUM_LEVEL_WORDS(yes ? 3 : 2), 10);
+    same("LEAFDRUM_LEVEL_COUNT in a quotient", 390 / LEAFDRUM_LEVEL_COUNT(yes ? 3 : 0, yes ? 2 : 1, yes ? 11 : 1, yes ? 3 : 2), 10);
+    same("LEAFDRUM_NODE_AREA in a quotient", 220 / LEAFDRUM_NODE_AREA(yes ? 11 : 1), 10);
+    same("LEAFDRUM_LEVEL_AREA in a quotient", 3900 / LEAFDRUM_LEVEL_AREA(yes ? 3 : 0, yes ? 2 : 1, yes ? 11 : 1, yes ? 3 : 2), 10);
+    same("LEAFDRUM_WORKER_AREA in a quotient", 7680 / LEAFDRUM_WORKER_AREA(yes ? 3 : 1), 10);
+    same("LEAFDRUM_WIDTH_2", LEAFDRUM_WIDTH_2, 2);
+    same("LEAFDRUM_WIDTH_3", LEAFDRUM_WIDTH_3, 3);
+    same("LEAFDRUM_WIDTH_4", LEAFDRUM_WIDTH_4, 4);
+    same("LEAFDRUM_WIDTH_6", LEAFDRUM_WIDTH_6, 6);
 }
 
 /* One word less in one area is refused by 2. An opening writes level 0 and the workers' words, and no node. */
@@ -109,7 +184,7 @@ static void arguments(void) {
     same("turn of an idle worker", leafdrum_turn(s, 1, AREAS).number, 8);
     r = leafdrum_start(s, 1, 2, 3, AREAS);
     same("answer of a start", r.answer, LEAFDRUM_OPEN);
-    same("pixel of worker 1", workers[128 + 1], 2 * 4096 + 3);
+    same("pixel of worker 1", workers[256 + 1], 2 * 4096 + 3);
     same("start of an open worker", leafdrum_start(s, 1, 2, 3, AREAS).number, 7);
     /* entry 3 names no worker: a list that were read with its count and limit exchanged would be refused */
     static const uint8_t list[] = {1, 1, 0, 9};
@@ -176,7 +251,11 @@ static void answers(void) {
 
 int main(void) {
     structs();
+    if (failed) return 1; /* nothing can be handed over in other structs */
     fields();
+    opened();
+    macros();
+    expressions();
     areas(with(3, 2, 11, 7, 9));
     arguments();
     exchanges();

@@ -17,6 +17,7 @@ LIMIT = "    uint32_t limit;        /* chain limit, 1 to 8 */\n"
 NODES = "    uint32_t nodes;        /* 1 to 4096 */\n"
 NODES_TAKEN = "    uint32_t nodes_taken;  /* set by leafdrum_open */\n"
 LEVELS_TAKEN = "    uint32_t levels_taken; /* set by leafdrum_open */\n"
+WIDTH = "    uint32_t width;        /* digit width in bits, one of the four below */\n"
 NUMBER = "    uint32_t number;           /* 0: carried out; else the number of the refusal, 1 to 9 */\n"
 ANSWER = "    uint32_t answer;           /* one of the answers above; 0 for a refusal other than \"full\", an opening and a list */\n"
 NODE = "    uint32_t node;             /* the node of \"new\" and \"found\", else 0 */\n"
@@ -27,6 +28,13 @@ SETTINGS = "    leafdrum_settings settings;\n"
 START = "uint32_t worker, uint32_t row, uint32_t column, "
 CONSTANTS = "LEAFDRUM_NONE = 0, LEAFDRUM_NEW = 1, LEAFDRUM_FOUND = 2, LEAFDRUM_FULL = 3, LEAFDRUM_OPEN = 4"
 LIST = "const uint8_t *list, size_t count, uint32_t limit, "
+WIDTHS = "LEAFDRUM_WIDTH_2 = 2, LEAFDRUM_WIDTH_3 = 3, LEAFDRUM_WIDTH_4 = 4, LEAFDRUM_WIDTH_6 = 6"
+RECORD = "LEAFDRUM_WORKER_WORDS 256"
+LEVEL = "LEAFDRUM_LEVEL_WORDS(width) (2 + (1 << (width)))"
+COUNT = "LEAFDRUM_LEVEL_COUNT(workers, limit, nodes, width) (1 + (24 / (width) - 1) * ((nodes) / (limit)) + (workers))"
+OF_NODES = "LEAFDRUM_NODE_AREA(nodes) (2 * (nodes))"
+OF_LEVELS = "LEAFDRUM_LEVEL_AREA(workers, limit, nodes, width) (LEAFDRUM_LEVEL_WORDS(width) * LEAFDRUM_LEVEL_COUNT(workers, limit, nodes, width))"
+OF_WORKERS = "LEAFDRUM_WORKER_AREA(workers) (LEAFDRUM_WORKER_WORDS * (workers))"
 
 # A wrong header: its name and its edit. Those in NAMES differ in names of parameters alone, which no program can see.
 WRONG = [
@@ -34,8 +42,15 @@ WRONG = [
     ("settings: limit after nodes", LIMIT + NODES, NODES + LIMIT),
     ("settings: nodes after nodes_taken", NODES + NODES_TAKEN, NODES_TAKEN + NODES),
     ("settings: nodes_taken after levels_taken", NODES_TAKEN + LEVELS_TAKEN, LEVELS_TAKEN + NODES_TAKEN),
+    ("settings: levels_taken after width", LEVELS_TAKEN + WIDTH, WIDTH + LEVELS_TAKEN),
+    ("settings: width first", WORKERS + LIMIT + NODES + NODES_TAKEN + LEVELS_TAKEN + WIDTH, WIDTH + WORKERS + LIMIT + NODES + NODES_TAKEN + LEVELS_TAKEN),
+    ("settings: width before what an opening sets", NODES_TAKEN + LEVELS_TAKEN + WIDTH, WIDTH + NODES_TAKEN + LEVELS_TAKEN),
+    ("settings: limit and width exchanged", LIMIT + NODES + NODES_TAKEN + LEVELS_TAKEN + WIDTH, WIDTH + NODES + NODES_TAKEN + LEVELS_TAKEN + LIMIT),
+    ("settings: no width, as before document 02's request 08", WIDTH, ""),
+    ("settings: width of 8 bits", WIDTH, WIDTH.replace("uint32_t", "uint8_t")),
+    ("settings: width of 64 bits", WIDTH, WIDTH.replace("uint32_t", "uint64_t")),
     ("settings: no levels_taken", LEVELS_TAKEN, ""),
-    ("settings: a word more", LEVELS_TAKEN, LEVELS_TAKEN + "    uint32_t more;\n"),
+    ("settings: a word more", WIDTH, WIDTH + "    uint32_t more;\n"),
     ("settings: workers of 8 bits", WORKERS, WORKERS.replace("uint32_t", "uint8_t")),
     ("settings: nodes of 64 bits", NODES, NODES.replace("uint32_t", "uint64_t")),
     ("reply: number after answer", NUMBER + ANSWER, ANSWER + NUMBER),
@@ -55,6 +70,41 @@ WRONG = [
     ("constants: found and full exchanged", "FOUND = 2, LEAFDRUM_FULL = 3", "FOUND = 3, LEAFDRUM_FULL = 2"),
     ("constants: full and open exchanged", "FULL = 3, LEAFDRUM_OPEN = 4", "FULL = 4, LEAFDRUM_OPEN = 3"),
     ("constants: full is 9", "FULL = 3", "FULL = 9"),
+    ("widths: 2 is 1", "WIDTH_2 = 2", "WIDTH_2 = 1"),
+    ("widths: 3 and 4 exchanged", "WIDTH_3 = 3, LEAFDRUM_WIDTH_4 = 4", "WIDTH_3 = 4, LEAFDRUM_WIDTH_4 = 3"),
+    ("widths: 4 is the entries of its levels", "WIDTH_4 = 4", "WIDTH_4 = 16"),
+    ("widths: 6 is 5", "WIDTH_6 = 6", "WIDTH_6 = 5"),
+    ("widths: numbered from 0", WIDTHS, re.sub(r" = \d", "", WIDTHS)),
+    ("widths: no 6", ", LEAFDRUM_WIDTH_6 = 6", ""),
+    ("words: 128 a worker", RECORD, RECORD.replace("256", "128")),
+    ("words: 10 a level", LEVEL, LEVEL.replace("(2 + (1 << (width)))", "(10 + 0 * (width))")),
+    ("words: a level without its depth", LEVEL, LEVEL.replace("2 +", "1 +")),
+    ("words: a level has an entry for each bit", LEVEL, LEVEL.replace("1 << ", "")),
+    ("levels: 7 at every width", COUNT, COUNT.replace("24 / (width) - 1", "7 + 0 * (width)")),
+    ("levels: one for each depth", COUNT, COUNT.replace(" - 1", "")),
+    ("levels: no root", COUNT, COUNT.replace("(1 + ", "(")),
+    ("levels: none for the workers", COUNT, COUNT.replace(" + (workers)", " + 0 * (workers)")),
+    ("levels: the quotient of nodes and limit is not whole", COUNT, COUNT.replace("((nodes) / (limit))", "(nodes) / (limit)")),
+    ("levels: the quotient of nodes and limit is rounded up", COUNT, COUNT.replace("((nodes) / (limit))", "(((nodes) + (limit) - 1) / (limit))")),
+    ("levels: workers and limit exchanged", COUNT, COUNT.replace("workers, limit, nodes", "limit, workers, nodes")),
+    ("levels: asked of the library, no constant", COUNT, COUNT[:COUNT.index(" (1 +")] + " leafdrum_level_count((leafdrum_settings){workers, limit, nodes, 0, 0, width})"),
+    ("areas: a word a node", OF_NODES, OF_NODES.replace("2 * ", "")),
+    ("areas: four words a node", OF_NODES, OF_NODES.replace("2 *", "4 *")),
+    ("areas: ten words a level", OF_LEVELS, OF_LEVELS.replace("LEAFDRUM_LEVEL_WORDS(width)", "10")),
+    ("areas: the levels of one worker", OF_LEVELS, OF_LEVELS.replace("COUNT(workers", "COUNT(1")),
+    ("areas: the levels of chain limit 4", OF_LEVELS, OF_LEVELS.replace("COUNT(workers, limit", "COUNT(workers, 4")),
+    ("areas: 128 words a worker", OF_WORKERS, OF_WORKERS.replace("LEAFDRUM_WORKER_WORDS", "128")),
+    ("areas: a word more for the workers", OF_WORKERS, OF_WORKERS.replace(" * (workers)", " * (workers) + 1")),
+    # an argument or a whole without its brackets
+    ("brackets: width in the words of a level", LEVEL, LEVEL.replace("<< (width)", "<< width")),
+    ("brackets: width in the levels", COUNT, COUNT.replace("/ (width)", "/ width")),
+    ("brackets: nodes in the levels", COUNT, COUNT.replace("(nodes) /", "nodes /")),
+    ("brackets: limit in the levels", COUNT, COUNT.replace("/ (limit)", "/ limit")),
+    ("brackets: workers in the levels", COUNT, COUNT.replace("+ (workers)", "+ workers")),
+    ("brackets: nodes in the nodes' area", OF_NODES, OF_NODES.replace("* (nodes)", "* nodes")),
+    ("brackets: workers in the workers' area", OF_WORKERS, OF_WORKERS.replace("* (workers)", "* workers")),
+] + [("brackets: round the whole of " + text.split("(")[0], text, re.sub(r"^(\S+\([\w, ]+\)) \((.*)\)$", r"\1 \2", text))
+     for text in (LEVEL, COUNT, OF_NODES, OF_LEVELS, OF_WORKERS)] + [
     ("areas: no length of the levels", "uint32_t *levels, size_t level_words", "uint32_t *levels"),
     ("areas: length before its area", "uint32_t *nodes, size_t node_words", "size_t node_words, uint32_t *nodes"),
     ("areas: length of 32 bits", "size_t node_words", "uint32_t node_words"),
@@ -110,6 +160,8 @@ def defined():
         found.append("%s%s(%s);" % (c_name[kind], name, ",".join(parameter(*p) for p in re.findall(r"(\w+): ([^,]+?)(?:,|$)", given))))
     answers = re.findall(r"Answer::(\w+)(?:\(_\))? => (\d)", re.search(r"fn answer_no(.*?)\n\}", source, re.S).group(1))
     found.append("enum{%s};" % ",".join("LEAFDRUM_%s=%s" % (c_name.get(a, a).upper(), n) for a, n in answers))
+    widths = re.findall(r"pub const (WIDTH_\d+): u32 = (\d+);", read("crates/settings/src/lib.rt"))
+    found.append("enum{%s};" % ",".join("LEAFDRUM_%s=%s" % width for width in widths))
     return sorted(found)
 
 
@@ -160,6 +212,8 @@ for name, old, new in [] if bad else WRONG:  # wrong headers are edits of a righ
     if right.count(old) != 1:
         sys.exit("headers: %s: the header has %d times %r" % (name, right.count(old), old))
     wrong = right.replace(old, new)
+    if wrong == right:
+        sys.exit("headers: %s: the edit changes nothing" % name)
     way = finds(wrong)
     if name in NAMES and not way and declared(wrong) != defined():
         way = "names"

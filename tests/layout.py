@@ -1,12 +1,14 @@
 #!/usr/bin/env python3
-"""docs/LAYOUT.md against the library: words are read where the page says they stand, in calls whose turns document 01 tells; its other numbers are measured
-where the library can be asked for them, else typed in. Then numbers are changed, names and contents exchanged: each must be noticed. Relies on tests/library.py."""
+"""docs/LAYOUT.md against the library: at each digit width words are read where the page says they stand, in calls whose turns document 01 tells; its other
+numbers are measured where the library can be asked for them, else typed in. Then numbers are changed, names and contents exchanged: each must be noticed.
+Relies on tests/library.py."""
 import ctypes
 import re
 import sys
 
 from library import ANSWERS, Table, Word, level_count, read
 
+WIDTHS = [w for w in range(99) if level_count(1, 1, 1, w)]
 MARK = 0xABCD0000  # stands, with its place added, in each word behind a record's head before the first turn
 
 # What the page says of a word in its content column, by the name that the facts below have for the word; the name column of the workers has the same names.
@@ -38,14 +40,17 @@ def number(text):
     return int(text.replace(",", ""))
 
 
-def formula(text):
-    """'10 g + 2 + e' as the number before each letter, and the number alone under ''."""
+def formula(text, known):
+    """'S g + 2 + e' as the number before each letter, and the number alone under ''; `known` are the letters that stand for numbers."""
     found = {"": 0}
     for term in text.split("+"):
-        value, _, letter = term.strip().partition(" ")
-        if value.isalpha():
-            value, letter = "1", value
-        found[letter] = found.get(letter, 0) + number(value)
+        count, letter = 1, ""
+        for part in term.split():
+            if part in known or not part.isalpha():
+                count *= known[part] if part in known else number(part)
+            else:
+                letter = part
+        found[letter] = found.get(letter, 0) + count
     return found
 
 
@@ -58,10 +63,14 @@ class Misread(Exception):
 
 
 class Layout:
-    """Where LAYOUT.md places what, and by which numbers."""
+    """Where LAYOUT.md places what at a width, and by which numbers. `widths` has the rows of its table of widths."""
 
-    def __init__(self, text):
+    def __init__(self, text, width):
         self.flat = " ".join(text.split())
+        self.width, self.widths = width, [list(map(int, row)) for row in re.findall(r"^\|%s (\d+) to (\d+) \|$" % (r" (\d+) \|" * 4), text, re.M)]
+        self.known = next(({"S": row[2], "D": row[3]} for row in self.widths if row[0] == width), None)
+        if not self.known:
+            raise Misread("no row for width %d" % width)
         self.places, self.unused = {}, []
         for title, contents in CONTENTS.items():
             self.places[title] = dict(self.rows(text, title, contents))
@@ -69,7 +78,7 @@ class Layout:
                 if word not in self.places[title]:
                     raise Misread("%s: no row says '%s'" % (title, contents[word]))
         self.head = {word: first[""] for word, (first, _) in self.places["Workers"].items() if not word.startswith("Move j")}
-        self.worker_words, = self.says(r"Worker i's words begin at (N) i\.")
+        self.worker_words, = self.says(r"Worker i's words begin at (N) i, at every width\.")
         self.kinds = self.named(r"Kinds: (.*?)\.") | self.named(r"\| (\d+ idle), ")
         self.answers = self.named(r"of the last ended call: (.*?) \|")
         self.none, = self.says(r"\(not a reference\); (N): none")
@@ -84,7 +93,7 @@ class Layout:
         for row in re.findall(r"^\|(.*)\|$", body.group(1), re.M)[2:]:
             try:
                 place, *name, content = (cell.strip() for cell in row.split("|"))
-                first, last = (formula(p) for p in (place.split(" to ") * 2)[:2])
+                first, last = (formula(p, self.known) for p in (place.split(" to ") * 2)[:2])
             except ValueError:
                 raise Misread("%s: no place and content in the row %s" % (title, row.strip()))
             word = next((w for w, said in contents.items() if said in content), "")
@@ -148,13 +157,18 @@ class Watched(Table):
 
     def __init__(self, layout, *sizes):
         self.moments, self.turned, self.worker_words = [], set(), layout.worker_words
-        super().__init__(*sizes)
+        super().__init__(*sizes, layout.width)
+        self.entries = range(2 ** layout.width)
         for i in range(self.settings.workers):
             for k in range(max(layout.head.values()) + 1, self.worker_words):
                 self.areas[2][self.worker_words * i + k] = MARK + k
         for i in range(self.settings.workers):
             self.shows(i, kind="idle", answer="none", held_node=None, held_level=None, Moves=0)
-        self.sees(("level", 0, "previous", None), ("level", 0, "depth", 0), *[("level", 0, "entry", e, ("level", 0)) for e in range(8)])
+        self.sees(("level", 0, "previous", None), ("level", 0, "depth", 0), *[("level", 0, "entry", e, ("level", 0)) for e in self.entries])
+
+    def pixel(self, *digits):
+        """The pixel with these digits from depth 0 on, each of at most two bits; the others are 0."""
+        return sum(digit << 24 - self.settings.width * (d + 1) for d, digit in enumerate(digits))
 
     def ask(self, name, *given):
         before = list(self.areas[2])
@@ -198,8 +212,8 @@ class Watched(Table):
 
 def chains(layout):
     """A chain of three; a race whose loser keeps a spare node; a full table."""
-    t = Watched(layout, 3, 4, 6)
-    a, b, c = 0o12345670, 0o17000001, 0o10000000
+    t = Watched(layout, 3, 4, 5)
+    a, b, c, d = t.pixel(1, 2, 3), t.pixel(1, 3, 0, 1), t.pixel(1), t.pixel(2)
     t.call(2, a, "Look Take Put", "new", 0)
     t.call(2, a, "Look Read", "found", 0)
     t.call(2, b, "Look Read Tail TakeTail Append", "new", 1)
@@ -210,7 +224,6 @@ def chains(layout):
     t.ends(1, "new", 2)
     t.sees(("node", 0, "pixel", a), ("node", 1, "pixel", b), ("node", 2, "pixel", c), ("node", 0, "next", ("node", 1)), ("node", 1, "next", ("node", 2)),
            ("node", 2, "next", ("level", 0)), ("level", 0, "entry", 1, ("node", 0)))
-    d = 0o50000000
     t.begin(0, d)
     t.begin(1, d)
     t.turns(0, "Look Take")
@@ -221,17 +234,16 @@ def chains(layout):
     t.turns(1, "Put")
     t.ends(1, "found", 3)
     t.shows(1, held_node=4)
-    t.call(1, 0o60000000, "Look Take Put", "new", 4)
+    t.call(1, t.pixel(3), "Look Take Put", "new", 4)
     t.shows(1, held_node=None)
-    t.call(1, 0o70000000, "Look Take Put", "new", 5)
-    t.call(1, 0o40000000, "Look Take", "full", 0)
+    t.call(1, t.pixel(0), "Look Take", "full", 0)
     return t
 
 
 def one_node_moves(layout):
     t = Watched(layout, 3, 1, 6)
-    t.call(2, 0o12345670, "Look Take Put", "new", 0)
-    t.begin(2, 0o17000001)
+    t.call(2, t.pixel(1, 2, 3), "Look Take Put", "new", 0)
+    t.begin(2, t.pixel(1, 3, 0, 1))
     t.turns(2, "Look Read Tail Level")
     t.shows(2, kind="Close", level=0, node=0, count=1, held_level=1, Moves=0)
     t.turns(2, "Close")
@@ -242,17 +254,18 @@ def one_node_moves(layout):
     t.turns(2, "Look Take Put")
     t.ends(2, "new", 1)
     t.sees(("level", 0, "entry", 1, ("level", 1)), ("level", 1, "previous", 0), ("level", 1, "depth", 1), ("level", 1, "entry", 2, ("node", 0)),
-           ("level", 1, "entry", 7, ("node", 1)), *[("level", 1, "entry", e, ("level", 1)) for e in (0, 1, 3, 4, 5, 6)], ("node", 0, "next", ("level", 1)))
+           ("level", 1, "entry", 3, ("node", 1)), *[("level", 1, "entry", e, ("level", 1)) for e in t.entries if e not in (2, 3)],
+           ("node", 0, "next", ("level", 1)))
     return t
 
 
 def three_nodes_move(layout):
     """The three have the same second digit, so they stand in one chain again."""
     t = Watched(layout, 1, 3, 6)
-    t.call(0, 0o11000000, "Look Take Put", "new", 0)
-    t.call(0, 0o11100000, "Look Read Tail TakeTail Append", "new", 1)
-    t.call(0, 0o11200000, "Look Read Tail Follow Tail TakeTail Append", "new", 2)
-    t.begin(0, 0o12000000)
+    t.call(0, t.pixel(1, 1), "Look Take Put", "new", 0)
+    t.call(0, t.pixel(1, 1, 1), "Look Read Tail TakeTail Append", "new", 1)
+    t.call(0, t.pixel(1, 1, 2), "Look Read Tail Follow Tail TakeTail Append", "new", 2)
+    t.begin(0, t.pixel(1, 2))
     t.turns(0, "Look Read Tail Follow Tail Follow Tail Level Close ChainHead ChainNext ChainNext ChainNext")
     t.move(0, 0, 0, 1, [0, 1, 2])
     t.turns(0, "SetNext SetLook SetPut SetNext SetLook SetRead SetTail SetAppend")
@@ -266,11 +279,11 @@ def three_nodes_move(layout):
 
 def eight_nodes_move(layout):
     t = Watched(layout, 1, 8, 12)
-    t.call(0, 0o70000000, "Look Take Put", "new", 0)
-    t.call(0, 0o11000000, "Look Take Put", "new", 1)
+    t.call(0, t.pixel(3), "Look Take Put", "new", 0)
+    t.call(0, t.pixel(1, 1), "Look Take Put", "new", 1)
     for k in range(1, 8):
-        t.call(0, 0o11000000 + k, "Look Read Tail " + "Follow Tail " * (k - 1) + "TakeTail Append", "new", k + 1)
-    t.begin(0, 0o12000000)
+        t.call(0, t.pixel(1, 1) + k, "Look Read Tail " + "Follow Tail " * (k - 1) + "TakeTail Append", "new", k + 1)
+    t.begin(0, t.pixel(1, 2))
     t.turns(0, "Look Read Tail " + "Follow Tail " * 7 + "Level Close ChainHead" + " ChainNext" * 8)
     t.move(0, 0, 0, 1, [1, 2, 3, 4, 5, 6, 7, 8])
     return t
@@ -279,10 +292,10 @@ def eight_nodes_move(layout):
 def move_inside_a_move(layout):
     """Worker 1 places a pixel in the new level just before worker 0 sets a node there."""
     t = Watched(layout, 2, 1, 6)
-    t.call(0, 0o11000000, "Look Take Put", "new", 0)
-    t.begin(0, 0o12000000)
+    t.call(0, t.pixel(1, 1), "Look Take Put", "new", 0)
+    t.begin(0, t.pixel(1, 2))
     t.turns(0, "Look Read Tail Level Close ChainHead ChainNext SetNext")
-    t.call(1, 0o11100000, "Look Read Tail Follow Look Take Put", "new", 1)
+    t.call(1, t.pixel(1, 1, 1), "Look Read Tail Follow Look Take Put", "new", 1)
     t.turns(0, "SetLook SetRead SetTail SetLevel")
     t.shows(0, kind="SetClose", level=1, node=1, held_level=2, Moves=1)
     t.turns(0, "SetClose ChainHead ChainNext")
@@ -295,20 +308,22 @@ def move_inside_a_move(layout):
     return t
 
 
-def seven_moves(layout):
-    """The same again in each new level: worker 0 places pixel 7 next to pixel 0, worker 1 places 1 to 6."""
-    t = Watched(layout, 2, 1, 16)
+def all_moves(layout):
+    """The same again in each new level, down to the last: worker 1's k-th pixel shares its first k + 1 digits with the node that worker 0 sets there."""
+    t, most = Watched(layout, 2, 1, 16), 24 // layout.width - 1
     t.call(0, 0, "Look Take Put", "new", 0)
-    t.begin(0, 7)
+    t.begin(0, t.pixel(0, 1))
     t.turns(0, "Look Read Tail Level Close ChainHead ChainNext SetNext")
-    for k in range(1, 7):
-        t.ask("start", 1, 0, k)
+    for k in range(1, most):
+        pixel = t.pixel(0, 0, *[1] * k)
+        t.ask("start", 1, pixel >> 12, pixel & 4095)
         while ANSWERS[t.reply.answer] == "open":
             t.ask("turn", 1)
         t.ends(1, "new", k)
         t.turns(0, "SetLook SetRead SetTail SetLevel SetClose ChainHead ChainNext SetNext")
-    t.shows(0, kind="SetLook", level=7, Moves=7)
-    for j in range(7):
+    t.shows(0, kind="SetLook", level=most, Moves=most)
+    t.sees(("level", most, "previous", most - 1), ("level", most, "depth", most))
+    for j in range(most):
         t.move(0, j, j, j + 1, [j])
     return t
 
@@ -316,12 +331,12 @@ def seven_moves(layout):
 # Numbers that the library shows.
 
 class Measured:
-    """The lengths that it asks for, the words that it writes, the records that it takes."""
+    """At one width the lengths that it asks for, the words that it writes, the records that it takes."""
 
     def __init__(self, layout, tables):
-        self.layout = layout
-        self.node_words, self.level_words, self.worker_words = (self.least(k) // count for k, count in enumerate((5, level_count(3, 2, 5), 3)))
-        self.zeroed = sum(word == 0 for word in Table(3, 2, 5).areas[2]) // 3
+        self.layout, self.width = layout, layout.width
+        self.node_words, self.level_words, self.worker_words = (self.least(k) // n for k, n in enumerate((5, level_count(3, 2, 5, self.width), 3)))
+        self.zeroed = sum(word == 0 for word in Table(3, 2, 5, self.width).areas[2]) // 3
         self.started = self.written_by_a_start()
         self.turned = sorted(set().union(*[t.turned for t in tables]) - set(range(layout.at("Workers", "Move j: home"), self.worker_words)))
         self.answers = [n for n in range(99) if self.takes(0, answer=n)]
@@ -338,11 +353,11 @@ class Measured:
         self.outer, = {self.span(lambda n: self.takes(k, moves=[n] + moves[k])) for k in self.empty + self.holding}
         self.moves, = {self.span(lambda n: n and self.takes(k, moves=[1] * (n - 1) + moves[k])) for k in self.empty + self.holding}
         self.most_nodes = max(n for n in range(20) if self.takes(self.holding[0], moves=[n], limit=8))
+        self.last_depth = max(n for n in range(20) if self.looks_at(n))
 
-    @staticmethod
-    def least(area):
+    def least(self, area):
         """The least length of an area that an opening takes."""
-        return 1 + Measured.most(lambda n: Table(3, 2, 5, [n if k == area else 2000 for k in range(3)]).opened == 2, 2000)
+        return 1 + self.most(lambda n: Table(3, 2, 5, self.width, [n if k == area else 4000 for k in range(3)]).opened == 2, 4000)
 
     @staticmethod
     def most(holds, below=2 ** 32):
@@ -354,20 +369,27 @@ class Measured:
 
     @staticmethod
     def span(holds):
-        found = [n for n in range(10) if holds(n)]
+        found = [n for n in range(16) if holds(n)]
         return (found[0], found[-1]) if found == list(range(found[0], found[-1] + 1)) else None
 
     def takes(self, kind, answer=0, pixel=0, count=1, moves=(), limit=3):
         """Whether a record fits its layout: its last answer is read. `moves` has how many nodes each Move remembers."""
-        t, lay = Table(2, limit, 5, (10, 100, 256)), self.layout
+        t, lay = Table(2, limit, 5, self.width), self.layout
         for name, word in (("kind", kind), ("answer", answer), ("pixel", pixel), ("count", count), ("Moves", len(moves))):
             t.areas[2][lay.worker_words + lay.head[name]] = word
         for j, n in enumerate(moves):
             t.areas[2][lay.worker_words + lay.at("Workers", "Move j: count", j=j)] = n
         return t.ask("last", 1) == 0
 
+    def looks_at(self, depth):
+        """Whether a level of this depth is looked at: the root with another depth."""
+        t = Table(1, 1, 1, self.width)
+        t.areas[1][self.layout.at("Levels", "depth")] = depth
+        t.ask("start", 0, 0, 0)
+        return t.ask("turn", 0) == 0
+
     def written_by_a_start(self):
-        t, lay = Table(2, 3, 5), self.layout
+        t, lay = Table(2, 3, 5, self.width), self.layout
         before = [MARK + k for k in range(lay.worker_words)]
         before[lay.head["kind"]], before[lay.head["answer"]] = 0, 2
         t.areas[2][lay.worker_words:2 * lay.worker_words] = before
@@ -392,19 +414,24 @@ class Measured:
 
     def sentences(self):
         """Sentences of the page with the numbers that they should have."""
-        entries = self.level_words - 2
+        # the formulas' numbers are those by which what was measured comes out
+        by_width = (2 + 2 ** self.width, 24 // self.width - 1, 24 // self.width - 1) == (self.level_words, self.last_depth, self.moves[1])
         return [
-            (r"All words are (N)-bit unsigned\. Sizes are for digit width (N);", [8 * ctypes.sizeof(Word), entries.bit_length() - 1]),
+            (r"All words are (N)-bit unsigned\.", [8 * ctypes.sizeof(Word)]),
+            (r"A level has S = (N) \+ (N)\^w words, depths run from (N) to D = (N) / w − (N), and at most D Moves are open one inside another\.",
+             by_width and [2, 2, 0, 24, 1]),
+            (r"At width (N): ```", [3]),
             (r"two pixels in one chain of level (N)\.", [0]),
             (r"## Nodes: (N) words each", [self.node_words]),
-            (r"## Levels: (N) words each", [self.level_words]),
-            (r"\| entry e, (N) to (N): a reference \|", [0, entries - 1]),
+            (r"## Levels: S words each", []),
+            (r"\| entry e, (N) to (N)\^w − (N): a reference \|", by_width and [0, 2, 1]),
+            (r"pixel p's entry is its digit there: p / (N)\^\((N) − w × \(d \+ (N)\)\) mod (N)\^w\.", [2, 24, 1, 2]),
             (r"## Workers: (N) words each", [self.worker_words]),
             (r"An opening zeroes all (N);", [self.zeroed]),
             (r"\| (N) idle, (N) to (N) the kind of the next turn", [0, 1, self.last_kind]),
             (r"R's place in its chain, from (N); past the limit it stays at limit \+ (N) \|", [self.count[0], self.count[1] - 3]),
             (r"\| of \"new\" and \"found\"; (N) with \"full\" \|", [0]),
-            (r"how many Moves are open, one inside another: (N) to (N) \|", [0, self.moves[1]]),
+            (r"how many Moves are open, one inside another: (N) to D \|", [0]),
             (r"Move (N) is the outermost \|", [0]),
             (r"how many nodes are remembered, (N) to (N) \|", [0, self.most_nodes]),
             (r"Kinds:" + r" (N) \w+,?" * len(self.searching) + r" \(searching\);" + r" (N) \w+,?" * (self.last_kind - len(self.searching)) + r" \(moving\)\.",
@@ -415,8 +442,8 @@ class Measured:
             (r"- Idle: answer (N) to (N)\.", [self.answers[0], self.answers[-1]]),
             (r"- Open: pixel ≤ (N)\. At a node of a chain \(kinds (N) to (N) and (N) to (N)\): count (N) to limit \+ (N)\.",
              [self.pixel] + bounds(self.counted) + [self.count[0], self.count[1] - 3]),
-            (r"- Searching: no Move\. Moving: (N) to (N) Moves; each but the innermost remembers (N) to limit nodes; the innermost remembers (N) to limit nodes "
-             r"in kinds (N) to (N) and none in (N) and (N)\.", [*self.moves, self.outer[0], self.inner[0]] + bounds(self.holding) + self.empty),
+            (r"- Searching: no Move\. Moving: (N) to D Moves; each but the innermost remembers (N) to limit nodes; the innermost remembers (N) to limit nodes "
+             r"in kinds (N) to (N) and none in (N) and (N)\.", [self.moves[0], self.outer[0], self.inner[0]] + bounds(self.holding) + self.empty),
             (r"- A kind number above (N) does not fit\.", [self.last_kind]),
         ]
 
@@ -444,9 +471,14 @@ def misplaced(lay, tables):
 
 def mismeasured(lay, measured):
     """What the page says otherwise than the library shows it, one by one."""
+    row = [lay.width, measured.level_words - 2, measured.level_words, measured.last_depth, lay.at("Workers", "Move j: home", j=measured.moves[1]), measured.worker_words - 1]
+    if row not in lay.widths:
+        yield "no row of the widths is %s" % row
+    if [row[0] for row in lay.widths] != WIDTHS:
+        yield "the widths are not %s" % WIDTHS
     if lay.covered(measured.moves[1]) != list(range(measured.worker_words)):
         yield "the table of words does not name each of %d words once" % measured.worker_words
-    elif "``` %s ```" % measured.picture(lay) not in lay.flat:
+    elif lay.width == 3 and "``` %s ```" % measured.picture(lay) not in lay.flat:
         yield "the picture is not: " + measured.picture(lay)
     for pattern, numbers in measured.sentences():
         try:
@@ -466,12 +498,15 @@ def other_words(lay):
             yield "bench/by_hand.c has not %s%s };" % (start, wanted)
 
 
-def noticed(text, tables, measured):
+def wrong(text, shown):
+    """What a page says otherwise than the library, one by one. `shown` has the tables and the measures of each width."""
     try:
-        lay = Layout(text)
-        return any(misplaced(lay, tables)) or any(mismeasured(lay, measured))
-    except Misread:
-        return True
+        for width, (tables, measured) in shown.items():
+            lay = Layout(text, width)
+            for said in (mismeasured(lay, measured), misplaced(lay, tables)):
+                yield from ("width %d: %s" % (width, what) for what in said)
+    except Misread as what:
+        yield str(what)
 
 
 def wrong_pages(text):
@@ -503,23 +538,27 @@ def wrong_pages(text):
 
 def main():
     page = read("docs/LAYOUT.md")
+    shown = {}
     try:
-        layout = Layout(page)
-        tables = [calls(layout) for calls in (chains, one_node_moves, three_nodes_move, eight_nodes_move, move_inside_a_move, seven_moves)]
-        bad = list(misplaced(layout, tables))
-        if not bad:
-            measured = Measured(layout, tables)
-            bad = list(mismeasured(layout, measured)) + list(other_words(layout))
+        for width in WIDTHS:
+            layout = Layout(page, width)
+            tables = [calls(layout) for calls in (chains, one_node_moves, three_nodes_move, eight_nodes_move, move_inside_a_move, all_moves)]
+            bad = list(misplaced(layout, tables))
+            if bad:
+                break
+            shown[width] = tables, Measured(layout, tables)
+        bad = bad or list(wrong(page, shown)) + list(other_words(layout))
     except Misread as what:
         bad = [str(what)]
     if not bad:
         tried = list(wrong_pages(page))
-        bad = ["not noticed: " + what for what, text in tried if not noticed(text, tables, measured)]
+        bad = ["not noticed: " + what for what, text in tried if not any(wrong(text, shown))]
     for line in bad[:9]:
         print("layout: " + line)
     if bad:
         sys.exit(1)
-    print("layout: LAYOUT.md is as the library shows in %d moments; %d wrong numbers, names and contents are noticed" % (sum(len(t.moments) for t in tables), len(tried)))
+    print("layout: LAYOUT.md is as the library shows at %d widths in %d moments; %d wrong numbers, names and contents are noticed"
+          % (len(shown), sum(len(t.moments) for tables, _ in shown.values() for t in tables), len(tried)))
 
 
 if __name__ == "__main__":

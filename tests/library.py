@@ -10,7 +10,7 @@ Word = ctypes.c_uint32
 
 
 class Settings(ctypes.Structure):
-    _fields_ = [(name, Word) for name in ("workers", "limit", "nodes", "nodes_taken", "levels_taken")]
+    _fields_ = [(name, Word) for name in ("workers", "limit", "nodes", "nodes_taken", "levels_taken", "width")]
 
 
 class Reply(ctypes.Structure):
@@ -36,15 +36,17 @@ def loaded():
 LIB = loaded()
 
 
-def level_count(workers, limit, nodes):
-    return LIB.leafdrum_level_count(Settings(workers, limit, nodes, 0, 0))
+def level_count(workers, limit, nodes, width=3):
+    return LIB.leafdrum_level_count(Settings(workers, limit, nodes, 0, 0, width))
 
 
 class Table:
-    """A table over nodes, levels and workers of such lengths; every word is 77 before the opening, whose number `opened` keeps."""
+    """A table over nodes, levels and workers of such lengths, at least as long as it needs where none are given; every word is 77 before the opening, whose
+    number `opened` keeps."""
 
-    def __init__(self, workers, limit, nodes, lengths=(64, 2000, 512)):
-        self.settings = Settings(workers, limit, nodes, 0, 0)
+    def __init__(self, workers, limit, nodes, width=3, lengths=None):
+        self.settings = Settings(workers, limit, nodes, 0, 0, width)
+        lengths = lengths or (64 + 2 * nodes, (2 + 2 ** width) * level_count(workers, limit, nodes, width) + 64, 256 * workers + 64)
         self.areas = [(Word * n)(*[77] * n) for n in lengths]
         self.opened = self.ask("open")
 

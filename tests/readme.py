@@ -1,5 +1,6 @@
 #!/usr/bin/env python3
-"""What README.md, docs/ and the header's comments say: links, names before links, the race, the memory to lend, counts; and that each file of tests/ is run.
+"""What README.md, docs/ and the header's comments say: links, names before links, the race, the memory to lend at each width, counts; and that each file of tests/
+is run.
 Relies on tests/library.py, the program, crates.txt, crates/*/must-fail and tests/run.sh."""
 import glob
 import os
@@ -43,40 +44,44 @@ if not race or printed != race.group(2):
 
 
 def worth(formula, **values):
-    """What '1 + 7 × (nodes / limit) + workers' is worth; 0 where it is no formula in the names of these values."""
-    terms = re.sub(r"`|\(settings\)", "", formula).replace("×", "*").replace("/", "//")
+    """What '1 + (24 / width − 1) × (nodes / limit) + workers' is worth; 0 where it is no formula in the names of these values."""
+    terms = formula.replace("`", "").replace("×", "*").replace("/", "//").replace("−", "-").replace("^", "**")
     known = set(re.findall(r"[a-z_]+", terms)) <= set(values)
-    return eval(terms, {}, values) if known and re.fullmatch(r"[\w\s+*/()]+", terms) else 0
+    return eval(terms, {}, values) if known and re.fullmatch(r"[\w\s+*/()-]+", terms) else 0
 
 
 def memory():
-    """What README.md and the header say of the memory to lend otherwise than the library asks for it, in the worked size and in others."""
-    row = r"\| %s \| ([^|\n]*) \| ([^|\n]*) \|\n"
-    table = re.search(r"\| area \| words \| ([\d,]+) nodes, chain limit (\d+), (\d+) workers \|\n\|[-|]*\|\n" + row % "nodes" + row % "levels" + row % "workers", readme)
-    needed = re.search(r"Words needed: nodes (.*?), levels (.*?),\s+workers (.*?)\. ", header)
-    if not table or not needed:
-        return ["%s does not have its sizes in the form that this test reads" % ("include/leafdrum.h" if table else "README.md")]
-    wrong = []
-    nodes, limit, workers = (int(n.replace(",", "")) for n in table.groups()[:3])
-    (of_nodes, of_levels, of_workers), shown = table.groups()[3::2], list(table.groups()[4::2])
-    of_levels, _, count_is = of_levels.partition(", which is ")
-    for size in ({"nodes": n, "limit": l, "workers": w} for n, l, w in ((11, 2, 3), (1, 8, 1), (63, 8, 5), (4096, 1, 16), (nodes, limit, workers))):
-        count = level_count(**size)
-        if worth(count_is, **size) != count:
-            wrong.append("README.md: '%s' are not the %d levels of %s" % (count_is, count, size))
-        for path, formulas in (("include/leafdrum.h", needed.groups()), ("README.md", (of_nodes, of_levels, of_workers))):
-            lengths = [worth(formula, leafdrum_level_count=count, **size) for formula in formulas]
-            # nothing less, nothing more: the opening takes these lengths, and refuses each area with a word less by 2
-            tried = [Table(lengths=[max(n - (k == less), 0) for k, n in enumerate(lengths)], **size).opened for less in (None, 0, 1, 2)]
-            if tried != [0, 2, 2, 2]:
-                wrong.append("%s: %s is not what the library asks for with %s" % (path, ", ".join(formulas), size))
-    # the last size is the worked one, and its last lengths are README.md's
-    worked = ["{:,}".format(n) for n in lengths]
-    worked[1] = "%s = %s" % (of_levels.replace("`leafdrum_level_count`", "{:,}".format(count)), worked[1])
-    if shown != worked:
-        wrong.append("README.md: the worked memory is %s, not %s" % (worked, shown))
-    total = "That is {:,} words, {:,} bytes.".format(sum(lengths), 4 * sum(lengths))
-    return wrong + ([] if total in readme else ["README.md does not say: " + total])
+    """What README.md says of the memory to lend otherwise than the library asks for it, in the worked size at each width and in others."""
+    widths = [w for w in range(99) if level_count(1, 1, 1, w)]
+    row = r"\| %s \| ([^|\n]*) \| `(\w+)` \|\n"
+    table = re.search(r"\| area \| words \| macro \|\n\|[-|]*\|\n" + row % "nodes" + row % "levels" + row % "workers", readme)
+    worked = re.search(r"With ([\d,]+) nodes, chain limit (\d+) and (\d+) workers:\n\n\|[^\n]*\|\n\|[-|]*\|\n((?:\|[^\n]*\|\n)*)", readme)
+    if not table or not worked:
+        return ["README.md does not have its sizes in the form that this test reads"]
+    wrong = ["include/leafdrum.h has no macro " + name for name in table.groups()[1::2] if not re.search(r"^#define %s\(" % name, header, re.M)]
+    formulas = table.groups()[::2]
+    each_level, _, of_count = formulas[1].partition(" × `leafdrum_level_count`, which is ")
+    nodes, limit, workers = (int(n.replace(",", "")) for n in worked.groups()[:3])
+    rows = []
+    for n, l, w, width in [(*size, width) for size in ((11, 2, 3), (1, 8, 1), (63, 8, 5), (4096, 1, 16), (nodes, limit, workers)) for width in widths]:
+        size = {"nodes": n, "limit": l, "workers": w, "width": width}
+        count, words = level_count(**size), worth(each_level, **size)
+        if worth(of_count, **size) != count:
+            wrong.append("README.md: '%s' are not the %d levels of %s" % (of_count, count, size))
+        lengths = [worth(formulas[0], **size), words * count, worth(formulas[2], **size)]
+        # nothing less, nothing more: the opening takes these lengths, and refuses each area with a word less by 2
+        tried = [Table(lengths=[max(n - (k == less), 0) for k, n in enumerate(lengths)], **size).opened for less in (None, 0, 1, 2)]
+        if tried != [0, 2, 2, 2]:
+            wrong.append("README.md: %s is not what the library asks for with %s" % (", ".join(formulas), size))
+        if (n, l, w) == (nodes, limit, workers):
+            of_levels = "{:,} × {:,} = {:,}".format(words, count, lengths[1])
+            rows.append("| {} | {:,} | {} | {:,} | {:,} | {:,} |\n".format(width, lengths[0], of_levels, lengths[2], sum(lengths), 4 * sum(lengths)))
+    if worked.group(4) != "".join(rows):
+        wrong.append("README.md: the worked memory is\n%s, not\n%s" % ("".join(rows), worked.group(4)))
+    depths = tuple(24 // w for w in widths)
+    said = [("README.md", readme, "at most %d, %d, %d and %d" % depths),
+            ("include/leafdrum.h", header, "an entry for each value of a digit, %d, %d, %d or %d, and the table at most %d, %d, %d or %d levels" % (*(2 ** w for w in widths), *depths))]
+    return wrong + ["%s does not say of the levels: %s" % (path, what) for path, text, what in said if what not in " ".join(text.split())]
 
 
 bad += memory()

@@ -1,4 +1,5 @@
-/* Demand 3 and the bound of failed exchanges on random orders of starts, turns and lists of turns, judged without a model: row [SEED [TABLES]]
+/* Demand 3 and the bound of failed exchanges on random orders of starts, turns and lists of turns at every digit width, judged without a model:
+   row [SEED [TABLES]]
    Relies on include/leafdrum.h and the library; with -DTABLE=by_hand on bench/by_hand.c in its place. Table k has seed SEED + k: row SEED 1 runs one again. */
 #include "../include/leafdrum.h"
 #include <stdio.h>
@@ -21,16 +22,19 @@ R OF_TABLE(turns)(S, const uint8_t *, size_t, uint32_t, LEAFDRUM_AREAS);
 R OF_TABLE(last)(S, uint32_t, LEAFDRUM_AREAS);
 uint32_t OF_TABLE(level_count)(S);
 
-enum { WORKERS = 16, NODES = 4096, LEVELS = 1 + 7 * NODES + WORKERS, PIXELS = 2 * NODES };
-static uint32_t nodes[2 * NODES], levels[10 * LEVELS], workers[128 * WORKERS];
+/* The widths, each with its last depth, which is also how many Moves are open one inside another at most. Width 2 has the most levels, width 6 the most words. */
+static const struct { uint32_t width, last; } widths[] = {{2, 11}, {3, 7}, {4, 5}, {6, 3}};
+enum { WIDTHS = 4, WORKERS = 16, NODES = 4096, LEVELS = 1 + 11 * NODES + WORKERS, LEVEL_WORDS = 66 * (1 + 3 * NODES + WORKERS), RECORD = 256, PIXELS = 2 * NODES };
+static uint32_t nodes[2 * NODES], levels[LEVEL_WORDS], workers[RECORD * WORKERS];
 static S s;
-static size_t level_words;
-#define AREAS nodes, 2 * s.nodes, levels, level_words, workers, 128 * s.workers
+static int wide; /* the place of the table's width */
+static size_t level_words; /* of all levels */
+#define AREAS nodes, 2 * s.nodes, levels, level_words, workers, RECORD * s.workers
 
 /* What is asked. Where all of it holds there is document 01's row: each "new" and "found" put where it ends, each "full" where it starts. */
 enum check {
     REFUSED, SIX, REFUSAL, NEW_PIXEL, NEW_NODE, FOUND_FIRST, FOUND_NODE, FULL_EARLY, FULL_PLACED, LOST, NOT_PLACED, PIXEL_WORD, UNTAKEN, TAKEN, SPARE, LEVELS_HELD,
-    LAST, DONE, COUNTED, BOUND, ALONE, ENDLESS, CHECKS
+    LAST, DONE, COUNTED, BOUND, ALONE, ENDLESS, SIZES, CHECKS
 };
 static const char *const names[CHECKS] = {
     [REFUSED] = "refused without a reason",
@@ -55,6 +59,7 @@ static const char *const names[CHECKS] = {
     [BOUND] = "more exchanges failed than the bound",
     [ALONE] = "exchange of a worker alone failed",
     [ENDLESS] = "call alone without end",
+    [SIZES] = "levels not counted by the width",
 };
 static uint64_t seed;
 static uint32_t operation, tables_with[CHECKS];
@@ -81,6 +86,7 @@ static uint32_t pixels, nodes_placed;
 static uint32_t holds[NODES]; /* the place of the node's pixel + 1; 0: not placed */
 static struct { uint32_t open, place, started, answer, node; } calls[WORKERS];
 static unsigned long turns_done, lists_done, compared, ended[4];
+static uint32_t deepest[WIDTHS]; /* the most Moves that were open one inside another */
 
 static void ends(uint32_t i, uint32_t answer, uint32_t node) {
     uint32_t k = calls[i].place;
@@ -106,27 +112,38 @@ static void carried_out(R r, uint32_t turns) {
     must(r.number != 6, SIX);
     must(r.number == (r.answer == LEAFDRUM_FULL ? 9 : 0), REFUSED);
     must(r.exchanges_done + r.exchanges_failed <= r.turns, COUNTED); /* none but of a list */
-    must(t.workers == s.workers && t.limit == s.limit && t.nodes == s.nodes && t.nodes_taken <= t.nodes, TAKEN);
+    must(t.workers == s.workers && t.limit == s.limit && t.nodes == s.nodes && t.width == s.width && t.nodes_taken <= t.nodes, TAKEN);
     must(t.nodes_taken >= s.nodes_taken && t.levels_taken >= s.levels_taken, TAKEN);
     must(t.nodes_taken - s.nodes_taken + t.levels_taken - s.levels_taken <= turns, TAKEN);
     s = t;
 }
 
 /* Kinds of turn and words of a record by their numbers in docs/LAYOUT.md. */
-enum { TAKE = 2, PUT = 3, TAKETAIL = 6, APPEND = 7, LEVEL = 8, CLOSE = 9, SETPUT = 15, SETAPPEND = 18, SETLEVEL = 19, SETCLOSE = 20 };
+enum { TAKE = 2, PUT = 3, TAKETAIL = 6, APPEND = 7, LEVEL = 8, CLOSE = 9, SETLOOK = 14, SETPUT = 15, SETAPPEND = 18, SETLEVEL = 19, SETCLOSE = 20 };
 enum { W_KIND, W_PIXEL, W_LEVEL, W_NODE, W_MOVES = 9 };
 
-static uint32_t entry_of(uint32_t level, uint32_t pixel) { return levels[10 * level + 2 + (pixel >> 3 * (7 - (levels[10 * level + 1] & 7)) & 7)]; }
+static uint32_t entries(void) { return 1u << s.width; }
+static uint32_t *level_at(uint32_t g) { return levels + (2 + entries()) * g; }
+
+/* The entry of a pixel by its digit at the level's depth. What a wrong table holds as a depth is taken for one. */
+static uint32_t entry_of(uint32_t g, uint32_t pixel) {
+    uint32_t *level = level_at(g), depth = level[1] % (24 / s.width);
+    return level[2 + (pixel >> (24 - s.width * (depth + 1))) % entries()];
+}
+
+/* The pixel of the node that a moving worker sets: the last that its innermost Move remembers. */
+static uint32_t set_pixel(const uint32_t *w) {
+    const uint32_t *move = w + 5 + 11 * w[W_MOVES];
+    return nodes[2 * move[2 + move[2]]];
+}
 
 /* A worker is committed from the turn that read a cell as its level to the turn that exchanges the cell from it; doomed, if the cell holds something else. */
 static int doomed(uint32_t i) {
-    const uint32_t *w = workers + 128 * i, own = 2 * w[W_LEVEL], *move;
+    const uint32_t *w = workers + RECORD * i, own = 2 * w[W_LEVEL];
     switch (w[W_KIND]) {
     case TAKE:
     case PUT: return entry_of(w[W_LEVEL], w[W_PIXEL]) != own;
-    case SETPUT:
-        move = w + 5 + 11 * w[W_MOVES]; /* the innermost one */
-        return entry_of(w[W_LEVEL], nodes[2 * move[2 + move[2]]]) != own;
+    case SETPUT: return entry_of(w[W_LEVEL], set_pixel(w)) != own;
     case TAKETAIL:
     case APPEND:
     case LEVEL:
@@ -145,7 +162,7 @@ static unsigned long bound_reached;
 
 /* The exchange of worker i's next turn, if it makes one and is not refused, is added: it fails if the cell holds something else than the worker's level. */
 static void count_next(uint32_t i, exchanges *e) {
-    switch (workers[128 * i + W_KIND]) {
+    switch (workers[RECORD * i + W_KIND]) {
     case PUT:
     case APPEND:
     case CLOSE:
@@ -170,11 +187,15 @@ static void start(uint32_t i, uint32_t k) {
     calls[i].open = 1, calls[i].place = k, calls[i].started = operation;
 }
 
+/* how many Moves of worker i are open */
+static uint32_t moving(uint32_t i) { return workers[RECORD * i + W_MOVES]; }
+
 static void turn(uint32_t i) {
     count_next(i, &in_table);
     R r = OF_TABLE(turn)(s, i, AREAS);
     carried_out(r, 1);
     turns_done++;
+    if (moving(i) > deepest[wide]) deepest[wide] = moving(i);
     if (r.answer == LEAFDRUM_OPEN) return;
     must(r.answer >= LEAFDRUM_NEW && r.answer <= LEAFDRUM_FULL, REFUSED);
     if (!broken) ends(i, r.answer, r.node);
@@ -182,13 +203,16 @@ static void turn(uint32_t i) {
 
 /* What a list has to report: its turns, done one by one on memory that is put back. */
 static R turn_by_turn(const uint8_t *entry, uint32_t count, uint32_t limit) {
-    static uint32_t kept_nodes[2 * NODES], kept_levels[10 * LEVELS], kept_workers[128 * WORKERS];
+    static uint32_t kept_nodes[2 * NODES], kept_levels[LEVEL_WORDS], kept_workers[RECORD * WORKERS];
     const S kept = s;
+    /* no turn takes more than one level */
+    size_t changed = (2 + entries()) * (size_t)(s.levels_taken + count);
+    if (changed > level_words) changed = level_words;
     exchanges e = {0, 0};
     R told = {0};
     memcpy(kept_nodes, nodes, 2 * s.nodes * sizeof *nodes);
-    memcpy(kept_levels, levels, level_words * sizeof *levels);
-    memcpy(kept_workers, workers, 128 * s.workers * sizeof *workers);
+    memcpy(kept_levels, levels, changed * sizeof *levels);
+    memcpy(kept_workers, workers, RECORD * s.workers * sizeof *workers);
     for (uint32_t k = 0; k < count && told.turns < limit; k++) {
         count_next(entry[k], &e);
         R r = OF_TABLE(turn)(s, entry[k], AREAS);
@@ -197,8 +221,8 @@ static R turn_by_turn(const uint8_t *entry, uint32_t count, uint32_t limit) {
     told.exchanges_done = (uint32_t)e.done, told.exchanges_failed = (uint32_t)e.failed;
     s = kept;
     memcpy(nodes, kept_nodes, 2 * s.nodes * sizeof *nodes);
-    memcpy(levels, kept_levels, level_words * sizeof *levels);
-    memcpy(workers, kept_workers, 128 * s.workers * sizeof *workers);
+    memcpy(levels, kept_levels, changed * sizeof *levels);
+    memcpy(workers, kept_workers, RECORD * s.workers * sizeof *workers);
     return told;
 }
 
@@ -224,19 +248,32 @@ static void list(void) {
             if (calls[i].open && last[i].answer == order[a]) ends(i, last[i].answer, last[i].node);
 }
 
+static void refused_by(uint32_t number, R r, S given) {
+    must(r.number == number && r.answer == LEAFDRUM_NONE && memcmp(&r.settings, &given, sizeof given) == 0, REFUSAL);
+    must(r.exchanges_done == 0 && r.exchanges_failed == 0, COUNTED);
+}
+
+/* A width that is none of the four, and one word less than the width asks for in one of the areas; the opening or a turn of worker i. */
+static void refused_sizes(uint32_t i, int opening) {
+    S other = s;
+    uint32_t less = draw(3);
+    while (other.width == 2 || other.width == 3 || other.width == 4 || other.width == 6) other.width = draw(4) ? draw(10) : draw(1u << 31);
+    must(OF_TABLE(level_count)(other) == 0, SIZES);
+    refused_by(1, opening ? OF_TABLE(open)(other, AREAS) : OF_TABLE(turn)(other, i, AREAS), other);
+#define LESS nodes, 2 * s.nodes - (less == 0), levels, level_words - (less == 1), workers, RECORD * s.workers - (less == 2)
+    refused_by(2, opening ? OF_TABLE(open)(s, LESS) : OF_TABLE(turn)(s, i, LESS), s);
+}
+
 /* Refused operations belong to a sequence too: they open and end nothing. */
 static void refused(uint32_t i) {
     uint8_t entry[2] = {0, (uint8_t)(s.workers + draw(200))};
-    uint32_t number;
-    R r;
-    switch (draw(4)) {
-    case 0: number = 4, r = OF_TABLE(start)(s, s.workers + draw(9), 1, 2, AREAS); break;
-    case 1: number = 4, r = OF_TABLE(turns)(s, entry, 2, 2, AREAS); break;
-    case 2: number = 5, r = OF_TABLE(start)(s, i, 4096, draw(4096), AREAS); break;
-    default: number = calls[i].open ? 7 : 8, r = calls[i].open ? OF_TABLE(start)(s, i, 1, 2, AREAS) : OF_TABLE(turn)(s, i, AREAS);
+    switch (draw(5)) {
+    case 0: refused_by(4, OF_TABLE(start)(s, s.workers + draw(9), 1, 2, AREAS), s); break;
+    case 1: refused_by(4, OF_TABLE(turns)(s, entry, 2, 2, AREAS), s); break;
+    case 2: refused_by(5, OF_TABLE(start)(s, i, 4096, draw(4096), AREAS), s); break;
+    case 3: refused_sizes(i, 0); break;
+    default: refused_by(calls[i].open ? 7 : 8, calls[i].open ? OF_TABLE(start)(s, i, 1, 2, AREAS) : OF_TABLE(turn)(s, i, AREAS), s);
     }
-    must(r.number == number && r.answer == LEAFDRUM_NONE && memcmp(&r.settings, &s, sizeof s) == 0, REFUSAL);
-    must(r.exchanges_done == 0 && r.exchanges_failed == 0, COUNTED);
 }
 
 static uint32_t visit, node_seen[NODES], level_seen[LEVELS], waiting[NODES + LEVELS];
@@ -256,9 +293,9 @@ static void compare(void) {
         uint32_t reference = waiting[--in_wait];
         if (reference & 1) lead_to(nodes[reference]); /* 2 i + 1 is node i's reference and the place of its next word */
         else {
-            uint32_t *level = levels + 10 * (reference >> 1);
+            uint32_t *level = level_at(reference >> 1);
             levels_reached++;
-            for (int e = 0; e < 8; e++) lead_to(level[2 + e]);
+            for (uint32_t e = 0; e < entries(); e++) lead_to(level[2 + e]);
             if (level[0] != UINT32_MAX) lead_to(2 * level[0]);
         }
     }
@@ -277,11 +314,15 @@ static void last_answers(void) {
     }
 }
 
+/* In such a table a worker keeps its turns while it moves, and others come between (below), most often in chains of one node with pixels that differ in the
+   last digits. */
+static int between;
+
 /* So many bits of a pixel number: the lowest, any, or one of each of the last digits. */
 static uint32_t some_bits(uint32_t count) {
-    uint32_t mask = 0, way = draw(count <= 8 ? 3 : 2);
+    uint32_t mask = 0, way = between ? 0 : draw(count * s.width <= 24 ? 3 : 2);
     for (uint32_t b = 0; b < count;) {
-        uint32_t bit = 1u << (way == 0 ? b : way == 1 ? draw(24) : 3 * b);
+        uint32_t bit = 1u << (way == 0 ? b : way == 1 ? draw(24) : s.width * b);
         if (!(mask & bit)) mask |= bit, b++;
     }
     return mask;
@@ -292,9 +333,12 @@ static void open_table(void) {
     static const uint32_t sizes[] = {4, 16, 16, 32, 64};
     uint32_t bits = 1, mask, base = draw(1 << 24), large = draw(500);
     s.workers = 1 + draw(draw(2) ? 4 : WORKERS);
-    s.limit = 1 + draw(draw(4) ? 2 : 8);
+    between = s.workers > 1 && draw(4) == 0;
+    s.limit = between && draw(4) ? 1 : 1 + draw(draw(4) ? 2 : 8);
     s.nodes = large == 0 ? NODES : 1 + draw(large < 20 ? 400 : sizes[draw(5)]);
+    if (between) s.nodes = 12 + draw(21); /* enough for a pixel more than there are Moves */
     s.nodes_taken = draw(9), s.levels_taken = draw(9);
+    wide = (int)draw(WIDTHS), s.width = widths[wide].width;
     while (1u << bits < s.nodes) bits++;
     bits += draw(2);
     mask = some_bits(bits);
@@ -304,10 +348,13 @@ static void open_table(void) {
     memset(calls, 0, sizeof calls);
     in_table.done = in_table.failed = 0;
     nodes_placed = 0, broken = 0, operation = 0;
-    level_words = 10 * (size_t)OF_TABLE(level_count)(s);
+    uint32_t count = 1 + widths[wide].last * (s.nodes / s.limit) + s.workers;
+    must(OF_TABLE(level_count)(s) == count, SIZES);
+    level_words = (2 + entries()) * (size_t)count;
     for (size_t k = 0; k < 2 * s.nodes; k++) nodes[k] = draw(1 << 25);
     for (size_t k = 0; k < level_words; k++) levels[k] = draw(64);
-    for (size_t k = 0; k < 128 * s.workers; k++) workers[k] = draw(64);
+    for (size_t k = 0; k < RECORD * s.workers; k++) workers[k] = draw(64);
+    refused_sizes(0, 1);
     R r = OF_TABLE(open)(s, AREAS);
     s.nodes_taken = 0, s.levels_taken = 1;
     must(r.number == 0 && r.answer == LEAFDRUM_NONE && memcmp(&r.settings, &s, sizeof s) == 0, REFUSED);
@@ -344,6 +391,17 @@ static void fill(void) {
     must(nodes_placed == s.nodes, SPARE);
 }
 
+/* Another worker's call comes between, just before worker i looks where its node goes: if it places a pixel there, worker i has to move that one's chain first,
+   inside its own Move. Most often it is the nearest pixel that is not placed. Random orders alone seldom have more than a few Moves one inside another. */
+static void come_between(uint32_t i) {
+    uint32_t j = (i + 1 + draw(s.workers - 1)) % s.workers, k = draw(pixels), near = set_pixel(workers + RECORD * i);
+    operation++;
+    for (uint32_t n = draw(8) ? 0 : pixels; n < pixels; n++)
+        if (!book[n].placed && (book[k].placed || (book[n].pixel ^ near) < (book[k].pixel ^ near))) k = n;
+    if (!calls[j].open) start(j, k);
+    alone(j);
+}
+
 /* Workers rest amid their calls while others do many turns: how many differs from table to table. */
 static void run(void) {
     static const uint32_t rests[] = {1, 4, 8, 16, 64};
@@ -351,13 +409,14 @@ static void run(void) {
     compare();
     for (operation = 1; operation <= steps && !broken; operation++) {
         uint32_t which = draw(64);
-        if (!left--) i = draw(s.workers), left = draw(rest);
+        if (!(between && moving(i)) && !left--) i = draw(s.workers), left = draw(rest);
         if (which == 0) refused(i);
         else if (which <= 2) list();
         else if (calls[i].open) turn(i);
         else start(i, draw(pixels));
         bound();
         if (!broken) compare();
+        if (between && workers[RECORD * i + W_KIND] == SETLOOK && !broken) come_between(i);
         if (operation % 16 == 0 && !broken) last_answers();
     }
     ask_again();
@@ -379,8 +438,12 @@ int main(int count, char **word) {
     if (bad) return 1;
     printf("row: %llu tables, %lu turns, %lu lists; %lu new, %lu found, %lu full; reached nodes compared %lu times; ", (unsigned long long)tables, turns_done,
            lists_done, ended[LEAFDRUM_NEW], ended[LEAFDRUM_FOUND], ended[LEAFDRUM_FULL], compared);
-    printf("exchanges %lu done, %lu failed, the bound reached %lu times\n", in_all.done, in_all.failed, bound_reached);
+    printf("exchanges %lu done, %lu failed, the bound reached %lu times; Moves one inside another", in_all.done, in_all.failed, bound_reached);
+    for (int k = 0; k < WIDTHS; k++) printf("%s %u at width %u", k ? "," : "", deepest[k], widths[k].width);
+    puts("");
     /* what the tests' own run never reaches was not tested */
     if (count == 1 && (!ended[LEAFDRUM_FULL] || !lists_done || !bound_reached)) return puts("row: a full call, a list or the bound was never reached"), 1;
+    for (int k = 0; k < WIDTHS; k++)
+        if (count == 1 && deepest[k] != widths[k].last) return printf("row: as many Moves as there can be were not reached at width %u\n", widths[k].width), 1;
     return 0;
 }

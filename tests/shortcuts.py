@@ -1,5 +1,6 @@
 #!/usr/bin/env python3
-"""Wrong versions of bench/by_hand.c, document 01's four shortcuts first: tests/row.c must find each, by the checks named with it; the file as it is must pass.
+"""Wrong versions of bench/by_hand.c, document 01's four shortcuts first, numbers of another digit width last: tests/row.c must find each, by the checks named
+with it; the file as it is must pass.
 Relies on tests/row.c, whose lines it reads, and on gcc. python3 tests/shortcuts.py [SEED]"""
 import os
 import re
@@ -14,7 +15,7 @@ SEED = sys.argv[1] if len(sys.argv) > 1 else "1"
 PLACES = "        word = exchange(x, 2 * h, 2 * n + 1);\n        if (word != 2 * h) goto met;\n"
 SETS = PLACES.replace("goto met", "goto set_met")
 CLOSES = "exchange(x, 2 * h, 2 * (w[W_HLEVEL] - 1)) : *x;\n        if (word != 2 * h) {\n"
-BACK = "            if (k != READ && k != PUT) NEED(back(s, levels, g, h, &g));\n"
+BACK = "            if (k != READ && k != PUT) NEED(back(s, d, levels, g, h, &g));\n"
 SET_BACK = BACK.replace("READ", "SETREAD").replace("PUT", "SETPUT")
 COUNT = "                w[W_COUNT] = k == READ || k == PUT ? 1"
 SET_COUNT = "            w[W_COUNT] = k == SETREAD || k == SETPUT ? 1"
@@ -23,6 +24,16 @@ NEXT = "        else if (s->nodes_taken < s->nodes) n = s->nodes_taken++;\n"
 SAME = "            if (nodes[2 * n] == w[W_PIXEL]) {\n"
 COUNTS = "        if (EXCHANGES >> kind & 1) exchanges++, failures += failed;\n"
 FOUND = "w[W_KIND] = IDLE, w[W_ANSWER] = 2, w[W_ANODE] = n;\n                *answer = 2, *node = n;"
+
+
+# and those that have to do with the width
+DIMS = "    d->words = 2 + (1u << d->width);\n    d->levels = 1 + d->last * (s->nodes / s->limit) + s->workers;\n"
+ROOT_WORDS = "    memset(levels + 1, 0, (d.words - 1) * sizeof *levels);\n    memset(workers, 0, RECORD * (size_t)s.workers * sizeof *workers);\n"
+ENTRY = "level + 2 + (p >> d->width * (d->last - level[1]) & ((1u << d->width) - 1))"
+ENTRIES = "        for (uint32_t e = 2; e < d->words; e++) x[e] = 2 * g;\n"
+WALK = "    for (uint32_t n = 0; n < d->last; n++) {\n"
+NEW_LEVEL = "w[W_HLEVEL] <= s->levels_taken && (at = level(d, levels, h))[1] < d->last);"
+ROOM = "        word = w[W_MOVES] < d->last ? "
 
 
 def failing(kind, what):
@@ -58,7 +69,7 @@ VERSIONS = [
         ("        nodes[2 * n + 1] = 2 * h;\n        w[W_KIND] = SETLOOK;\n",
          "        nodes[2 * n + 1] = 2 * h;\n"
          "        m = mv(w);\n"
-         "        if (m[2] == 1) *entry(levels, m[0], w[W_MOVES] > 1 ? nodes[2 * last_node(m - 11)] : w[W_PIXEL]) = 2 * m[1];\n"
+         "        if (m[2] == 1) *entry(d, level(d, levels, m[0]), w[W_MOVES] > 1 ? nodes[2 * last_node(m - 11)] : w[W_PIXEL]) = 2 * m[1];\n"
          "        w[W_KIND] = SETLOOK;\n")]),
     ("shortcut 3, the entry in H is written with a node still remembered", ["LOST"], [
         ("static inline void set_last(uint32_t *w, const uint32_t *m) {\n    if (m[2] == 0) w[W_KIND] = MOVEEND;\n",
@@ -95,7 +106,7 @@ VERSIONS = [
     ("placed a turn before new", ["NOT_PLACED"], [
         (PLACES, PLACES.replace("if (word != 2 * h)", "if (word == 2 * h) return 0;\n        if (word != 2 * n + 1)"))]),
     ("new 0 always", ["NEW_NODE"], [("*answer = 1, *node = n;", "*answer = 1, *node = 0;")]),
-    ("found by seven digits", ["FOUND_FIRST"], [(SAME, SAME.replace("n] == w[W_PIXEL]", "n] >> 3 == w[W_PIXEL] >> 3"))]),
+    ("found by all bits but the last three", ["FOUND_FIRST"], [(SAME, SAME.replace("n] == w[W_PIXEL]", "n] >> 3 == w[W_PIXEL] >> 3"))]),
     ("found with the node before", ["FOUND_NODE"], [(FOUND, FOUND.replace("= n;", "= w[W_NODE];"))]),
     ("found forgets the spare node", ["SPARE"], [(FOUND, FOUND + " w[W_HNODE] = 0;")]),
     ("full with a node left", ["FULL_EARLY"], [(NEXT, NEXT.replace("taken <", "taken + 1 <"))]),
@@ -116,6 +127,38 @@ VERSIONS = [
     ("a failed Close is tried again", ["BOUND"], [(CLOSES, CLOSES + "            if (k == CLOSE) { *failed = 1; return 0; }\n")]),
     ("Look takes a used entry for empty", ["BOUND", "ALONE"], [("word == 2 * h ? TAKE : READ;", "TAKE;")]),
     ("SetLook takes a used entry for empty", ["ALONE"], [("word == 2 * h ? SETPUT : SETREAD;", "SETPUT;")]),
+    # 7 and 8, 10 and 128 at every width; a number of the last depth one too low
+    ("the level count has 7 at every width", ["SIZES"], [(DIMS, DIMS.replace("d->last *", "7 *"))]),
+    ("the level count has a level for each depth", ["SIZES"], [(DIMS, DIMS.replace("d->last *", "(d->last + 1) *"))]),
+    ("the level count is not told, and has 7", ["SIX", "REFUSAL"], [
+        (DIMS, DIMS.replace("d->last *", "7 *")), ("return dims(&s, &d) ? d.levels : 0;", "return dims(&s, &d) ? 1 + d.last * (s.nodes / s.limit) + s.workers : 0;")]),
+    ("width 5 is taken", ["SIZES"], [("[4] = 5, [6] = 3", "[4] = 5, [5] = 3, [6] = 3")]),
+    ("width 6 is not taken", ["SIZES"], [(", [6] = 3", "")]),
+    ("widths are taken by their last three bits", ["SIZES"], [
+        ("d->last = s->width < sizeof last ? last[s->width] : 0;", "d->last = s->width % 8 < sizeof last ? last[s->width % 8] : 0;")]),
+    ("every opening is at width 3", ["REFUSED"], [("    s.levels_taken = 1;\n", "    s.levels_taken = 1;\n    s.width = 3;\n")]),
+    ("a list gives back width 3", ["TAKEN"], [("    R r = reply(q == 6 ? 6 : 0, 0, 0, s);\n", "    s.width = 3;\n    R r = reply(q == 6 ? 6 : 0, 0, 0, s);\n")]),
+    ("128 words a worker", ["REFUSAL"], [("RECORD = 256", "RECORD = 128")]),
+    ("128 words a worker are cleared", ["SIX"], [(ROOT_WORDS, ROOT_WORDS.replace("RECORD *", "128 *"))]),
+    ("10 words a level", ["REFUSAL"], [(DIMS, DIMS.replace("2 + (1u << d->width)", "10"))]),
+    ("an entry too few a level", ["REFUSAL"], [(DIMS, DIMS.replace("2 + (1u", "1 + (1u"))]),
+    ("ten words of the root are set", ["UNTAKEN"], [(ROOT_WORDS, ROOT_WORDS.replace("(d.words - 1)", "9"))]),
+    ("8 entries of a new level are set", ["UNTAKEN", "LOST"], [(ENTRIES, ENTRIES.replace("e < d->words", "e < 10"))]),
+    ("the last entry of a new level is not set", ["UNTAKEN"], [(ENTRIES, ENTRIES.replace("e < d->words", "e + 1 < d->words"))]),
+    ("the digit is the next depth's", ["SIX"], [(ENTRY, ENTRY.replace("d->last - level[1]", "(d->last - level[1] - (level[1] < d->last))"))]),
+    ("the digit is the depth's before", ["SIX"], [(ENTRY, ENTRY.replace("d->last - level[1]", "(d->last - level[1] + (level[1] > 0))"))]),
+    ("the digit is by three bits a depth", ["SIX"], [(ENTRY, ENTRY.replace("d->width * (d->last - level[1])", "(level[1] < 8 ? 3 * (7 - level[1]) : 0)"))]),
+    ("the digit has three bits", ["SIX"], [(ENTRY, ENTRY.replace("((1u << d->width) - 1)", "7"))]),
+    ("digits from the last one on", ["BOUND"], [(ENTRY, ENTRY.replace("(d->last - level[1])", "level[1]"))]),
+    ("going back ends after 7 words", ["SIX"], [(WALK, WALK.replace("d->last", "7"))]),
+    ("going back ends a word early", ["SIX"], [(WALK, WALK.replace("n < d->last", "n + 1 < d->last"))]),
+    ("a level at depth 7 has none below it", ["SIX"], [(NEW_LEVEL, NEW_LEVEL.replace("< d->last", "< 7"))]),
+    ("a level before the last depth has none below it", ["SIX"], [(NEW_LEVEL, NEW_LEVEL.replace("< d->last", "+ 1 < d->last"))]),
+    ("room for 7 Moves", ["SIX"], [(ROOM, ROOM.replace("d->last", "7")), ("NEED(w[W_MOVES] < d->last)", "NEED(w[W_MOVES] < 7)")]),
+    ("room for 8 Moves", ["SIX"], [(ROOM, ROOM.replace("d->last", "8")), ("NEED(w[W_MOVES] < d->last)", "NEED(w[W_MOVES] < 8)")]),
+    ("room for a Move less", ["SIX"], [(ROOM, ROOM.replace("d->last", "d->last - 1")), ("NEED(w[W_MOVES] < d->last)", "NEED(w[W_MOVES] < d->last - 1)")]),
+    ("a record fits with 7 Moves", ["SIX"], [("    if (m - 1 >= d->last) return 0;\n", "    if (m - 1 >= 7) return 0;\n")]),
+    ("a record fits with a Move less", ["SIX"], [("    if (m - 1 >= d->last) return 0;\n", "    if (m >= d->last) return 0;\n")]),
 ]
 
 

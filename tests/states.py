@@ -18,7 +18,7 @@ def differs(path):
     said = subprocess.run([os.path.join(ROOT, "leafdrum")], input=text, stdout=subprocess.PIPE, check=True).stdout.decode().splitlines()
     found = states(text)
     refused = ["refused,%d,%d" % (k + 1, st.reply[0]) for k, st in enumerate(found) if st.reply[0] not in (0, 9)]
-    end = ["end,%d,%d" % tuple(found[-1].settings[3:])] if found else []
+    end = ["end,%d,%d" % tuple(found[-1].settings[3:5])] if found else []
     if not found:
         refused = [row for row in said if row in ("refused,1,%s" % row.split(",")[-1], "refused,0,10")]
     wanted = [row for row in said if row.startswith(("refused,", "end,"))]

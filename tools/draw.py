@@ -23,7 +23,7 @@ def arrow(x1, y1, x2, y2):
 def draw_level(st, g, x, y):
     """Level g with its used entries and their chains; returns the shapes, and the height."""
     previous, depth, *entries = st.levels[g]
-    used = [e for e in range(8) if entries[e] != 2 * g]
+    used = [e for e, word in enumerate(entries) if word != 2 * g]
     rows = used or [None]
     high = ROW * len(rows) + 24
     out = [box(x, y, BOX, high, "#eef3fb"), text(x + 6, y + 16, "L%d  depth %d" % (g, depth), 12, "#123", "bold")]

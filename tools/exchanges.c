@@ -4,9 +4,9 @@
 #include <stdio.h>
 #include <stdlib.h>
 
-enum { WORKERS = 16, NODES = 512, LEVELS = 1 + 7 * NODES + WORKERS, ENOUGH = 4000 };
-static uint32_t nodes[2 * NODES], levels[10 * LEVELS], workers[128 * WORKERS];
-#define AREAS nodes, 2 * NODES, levels, 10 * LEVELS, workers, 128 * WORKERS
+enum { WORKERS = 16, NODES = 512, WIDTH = LEAFDRUM_WIDTH_3, ENOUGH = 4000 };
+static uint32_t nodes[LEAFDRUM_NODE_AREA(NODES)], levels[LEAFDRUM_LEVEL_AREA(WORKERS, 1, NODES, WIDTH)], workers[LEAFDRUM_WORKER_AREA(WORKERS)];
+#define AREAS nodes, sizeof nodes / 4, levels, sizeof levels / 4, workers, sizeof workers / 4
 
 static uint64_t state;
 static uint32_t draw(uint32_t n) {
@@ -45,7 +45,7 @@ static void table(enum load l, uint32_t crew, unsigned long *done, unsigned long
     uint8_t list[WORKERS];
     uint32_t place = draw(1 << 24), started = 0, open;
     int together = l == RACE || l == ONE_PIXEL;
-    leafdrum_reply r = carried(leafdrum_open((leafdrum_settings){crew, limits[l], NODES, 0, 0}, AREAS));
+    leafdrum_reply r = carried(leafdrum_open((leafdrum_settings){crew, limits[l], NODES, 0, 0, WIDTH}, AREAS));
     do {
         open = 0;
         for (uint32_t i = 0; i < crew; i++) open += leafdrum_last(r.settings, i, AREAS).answer == LEAFDRUM_OPEN;

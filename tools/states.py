@@ -8,6 +8,7 @@ KINDS = ("Idle Look Take Put Read Tail TakeTail Append Level Close Follow ChainH
          "SetTail SetAppend SetLevel SetClose SetFollow MoveEnd").split()
 WORDS = "kind pixel level node count held_node held_level answer answer_node moves".split()
 NONE = 4294967295
+LEVEL_WORDS = 2 + 2 ** 3  # at the text program's width
 
 
 def program(name):

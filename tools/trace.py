@@ -2,7 +2,7 @@
 """Writes docs/TRACE.md: the race and a chain move turn by turn, with the words that change. python3 tools/trace.py > docs/TRACE.md"""
 import os
 import sys
-from states import KINDS, ROOT, WORDS, ref, states
+from states import LEVEL_WORDS, NONE, ROOT, ref, states
 
 HEAD = """# Turn by turn
 
@@ -29,8 +29,11 @@ places (128,0), and worker 1 looks for (64,0) in the middle of the Move.
 ]
 
 
-def named(area, k, g=None):
-    return "n%d.%s" % (k // 2, "next" if k % 2 else "pixel") if area == "node" else "L%d.%s" % (k // 10, ["previous", "depth"][k % 10] if k % 10 < 2 else k % 10 - 2)
+def named(area, k):
+    if area == "node":
+        return "n%d.%s" % (k // 2, "next" if k % 2 else "pixel")
+    g, word = divmod(k, LEVEL_WORDS)
+    return "L%d.%s" % (g, ["previous", "depth"][word] if word < 2 else word - 2)
 
 
 def flat(st, area):
@@ -38,8 +41,8 @@ def flat(st, area):
 
 
 def shown(area, k, word):
-    plain = (area == "node" and k % 2 == 0) or (area == "level" and k % 10 < 2)
-    return ("none" if word == 4294967295 else str(word)) if plain else ref(word)
+    plain = (area == "node" and k % 2 == 0) or (area == "level" and k % LEVEL_WORDS < 2)
+    return ("none" if word == NONE else str(word)) if plain else ref(word)
 
 
 def changes(before, st):
@@ -54,8 +57,9 @@ def changes(before, st):
         if fresh and area == "node":
             out.append("new " + ", ".join("%s = %s" % (named(area, k), shown(area, k, new[k])) for k in fresh))
         if fresh and area == "level":
-            g = fresh[0] // 10
-            out.append("new L%d: previous L%d, depth %d, every entry %s" % (g, new[10 * g], new[10 * g + 1], ref(new[10 * g + 2])))
+            g = fresh[0] // LEVEL_WORDS
+            previous, depth, entry = new[fresh[0]:fresh[0] + 3]
+            out.append("new L%d: previous L%d, depth %d, every entry %s" % (g, previous, depth, ref(entry)))
     return "; ".join(out) or "none"
 
 

@@ -4,20 +4,24 @@
 #include <stdio.h>
 #include <string.h>
 
-static uint32_t nodes[256], levels[9130], workers[2048];
+/* what the text program lends, at its width */
+enum { WORKERS = 16, NODES = 128, WIDTH = LEAFDRUM_WIDTH_3, LEVEL_WORDS = LEAFDRUM_LEVEL_WORDS(WIDTH) };
+static uint32_t nodes[LEAFDRUM_NODE_AREA(NODES)], levels[LEAFDRUM_LEVEL_AREA(WORKERS, 1, NODES, WIDTH)], workers[LEAFDRUM_WORKER_AREA(WORKERS)];
+#define AREAS nodes, sizeof nodes / 4, levels, sizeof levels / 4, workers, sizeof workers / 4
 static unsigned char text[65537];
 
 static void state(leafdrum_settings s) {
-    printf("settings %u %u %u %u %u\n", s.workers, s.limit, s.nodes, s.nodes_taken, s.levels_taken);
+    printf("settings %u %u %u %u %u %u\n", s.workers, s.limit, s.nodes, s.nodes_taken, s.levels_taken, s.width);
     for (uint32_t i = 0; i < s.nodes_taken; i++) printf("node %u %u %u\n", i, nodes[2 * i], nodes[2 * i + 1]);
     for (uint32_t g = 0; g < s.levels_taken; g++) {
         printf("level %u", g);
-        for (int k = 0; k < 10; k++) printf(" %u", levels[10 * g + k]);
+        for (int k = 0; k < LEVEL_WORDS; k++) printf(" %u", levels[LEVEL_WORDS * g + k]);
         puts("");
     }
     for (uint32_t i = 0; i < s.workers; i++) {
+        const uint32_t *w = workers + LEAFDRUM_WORKER_WORDS * i;
         printf("worker %u", i);
-        for (uint32_t k = 0; k < 16 + 11 * workers[128 * i + 9] && k < 128; k++) printf(" %u", workers[128 * i + k]);
+        for (uint32_t k = 0; k < 16 + 11 * w[9] && k < LEAFDRUM_WORKER_WORDS; k++) printf(" %u", w[k]);
         puts("");
     }
 }
@@ -53,10 +57,10 @@ static leafdrum_reply carry(leafdrum_settings s, int first, const unsigned char 
     if (first) {
         if (!reads(p, n, 's', 3, v)) return unread;
         unread.number = 1;
-        return v[2] > 128 ? unread : leafdrum_open((leafdrum_settings){v[0], v[1], v[2], 0, 1}, nodes, 256, levels, 9130, workers, 2048);
+        return v[2] > NODES ? unread : leafdrum_open((leafdrum_settings){v[0], v[1], v[2], 0, 1, WIDTH}, AREAS);
     }
-    if (reads(p, n, 'c', 3, v)) return leafdrum_start(s, v[0], v[1], v[2], nodes, 256, levels, 9130, workers, 2048);
-    if (reads(p, n, 't', 1, v)) return leafdrum_turn(s, v[0], nodes, 256, levels, 9130, workers, 2048);
+    if (reads(p, n, 'c', 3, v)) return leafdrum_start(s, v[0], v[1], v[2], AREAS);
+    if (reads(p, n, 't', 1, v)) return leafdrum_turn(s, v[0], AREAS);
     return unread;
 }
 

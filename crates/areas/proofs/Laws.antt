@@ -3,14 +3,17 @@
 use mathlib.Core.Path.{_≡_}
 use mathlib.Core.Bool.{Bool, true, false}
 use mathlib.Core.List.{List}
-use Prim.Native.Nat.{ℕ, _+_, _*_}
 use lib.Dec.{eqb}
-use native.Mathlib.Nat.{add-zero, add-assoc}
+use Prim.Native.Nat.{ℕ, _+_, _*_, _≤_, _<_}
+use native.Mathlib.Nat.{add-zero, add-assoc, mul-le-mul}
+use native.Mathlib.Omega.{arith}
+use mir.Syntax.{w64}
+use mir.Val.{Fits}
 use lib.ListN.{getD, set}
 use Rattle.words.specs.Choice.{pick}
 use Rattle.words.specs.Digits.{base, digit}
 use Rattle.words.specs.Blocks.{fill}
-use Rattle.settings.specs.Sizes.{levelWords}
+use Rattle.settings.specs.Sizes.{levelWords, mostLevelWords}
 use Rattle.settings.specs.declared.Settings.{Settings}
 use Rattle.areas.specs.declared.Cell.{Cell}
 use Rattle.areas.specs.declared.Cell.the-variants.{Entry, Next}
@@ -62,12 +65,12 @@ module _ (w : ℕ) (levels : List ℕ) (g : ℕ) where
   entry-cell-steps p a b = simp (a, b)
 
   pub fill-level-steps :
-      (previous depth : ℕ) {l m : List ℕ} {p r : ℕ}
-      → l ≡ fill m p (base w) r → r ≡ levelRef g → p ≡ levelWords w * g + 2
+      (previous depth : ℕ) {l m : List ℕ} {p r n : ℕ}
+      → l ≡ fill m p n r → n ≡ base w → r ≡ levelRef g → p ≡ levelWords w * g + 2
       → m ≡ set (set levels (levelWords w * g) previous) (levelWords w * g + 1) depth
       → l ≡ fillLevel w levels g previous depth
   unfolding fillLevel
-  fill-level-steps previous depth a b c d = simp (a, b, c, d)
+  fill-level-steps previous depth a n b c d = simp (a, n, b, c, d)
 
 module _ (w : ℕ) (nodes levels : List ℕ) (x : Cell) where
   pub cell-entry : {r g e : ℕ} → r ≡ entryAt w levels g e → x ≡ Entry g e → r ≡ cellAt w (memory nodes levels) x
@@ -99,3 +102,14 @@ module _ (w : ℕ) (m : Memory) (x : Cell) (a b : ℕ) {v : ℕ} where
   pub exchange-failed : v ≡ cellAt w m x → eqb v a ≡ false → exchanged v m ≡ exchange w m x a b
   unfolding exchange pick
   exchange-failed q e = simp (← q, e)
+
+-- the place of a word of a level: the product is of two variables
+module _ {a g : ℕ} (p : a ≤ mostLevelWords) (q : g < 4294967296) where
+  pub place-fits : Fits w64 (a * g)
+  place-fits = let r : g ≤ 4294967295 = omega arith in let z = mul-le-mul p r in record { fits = omega arith }
+
+  pub word-fits : {k : ℕ} → k ≤ 4294967297 → Fits w64 (a * g + k)
+  word-fits l = let r : g ≤ 4294967295 = omega arith in let z = mul-le-mul p r in record { fits = omega arith }
+
+  pub place-most : {k : ℕ} → k ≤ 4294967297 → a * g + k ≤ 300000000000
+  place-most l = let r : g ≤ 4294967295 = omega arith in let z = mul-le-mul p r in omega arith

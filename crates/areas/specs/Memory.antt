@@ -60,7 +60,7 @@ pixelAt nodes i = getD nodes (nodeWords * i) 0
 unfoldable pub nextAt : List ℕ → ℕ → ℕ
 nextAt nodes i = getD nodes (nodeWords * i + 1) 0
 
--- "Level g has ten: number of the previous level, depth, eight entries."
+-- "Level g has ten: number of the previous level, depth, eight entries.", at width 3
 unfoldable pub previousAt : ℕ → List ℕ → ℕ → ℕ
 previousAt w levels g = getD levels (levelWords w * g) 0
 

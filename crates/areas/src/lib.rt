@@ -4,12 +4,16 @@ ghost use mathlib.Core.Path.{_≡_};
 ghost use Prim.Native.Nat.{_+_, _*_, _≤_};
 ghost use lib.Dec.{eqb};
 ghost use lib.ListN.{set};
+ghost use Rattle.words.specs.Digits.{DigitWidth};
+ghost use Rattle.settings.specs.Sizes.{levelWords, maxNodes, mostLevels};
 ghost use Rattle.areas.specs.Memory.{memory, levelRef, nodeRef, isNode, named, pixelAt, nextAt, previousAt, depthAt, entryAt, cellAt, setCell, exchanged, exchange, entryCell, fillNode, fillLevel, levelTaken, nodeTaken, refTaken};
 use settings::Settings;
+use settings::entries;
+use settings::level_words;
 use words::at;
+use words::digit;
 use words::fill_words;
 use words::lt;
-use words::octal_digit;
 use words::put;
 
 // A cell: an entry of a level (level, entry), or the next word of a node.
@@ -19,11 +23,13 @@ pub enum Cell {
 }
 
 // The place of word k of level g.
-fn level_place(g: u32, k: usize) -> usize
-    requires { ⌜ k ≤ 4294967306 ⌝ }
-    ensures { λ r. ⌜ r ≡ 10 * g + k ⌝ }
+fn level_place(w: u32, g: u32, k: usize) -> usize
+    requires { ⌜ DigitWidth w ⌝ }
+    requires { ⌜ k ≤ 4294967297 ⌝ }
+    ensures { λ r. ⌜ r ≡ levelWords w * g + k ⌝ }
+    ensures { λ r. ⌜ r ≤ 300000000000 ⌝ }
 {
-    (Settings::LEVEL_WORDS as usize) * (g as usize) + k
+    (level_words(w) as usize) * (g as usize) + k
 }
 
 // The place of word k of node i.
@@ -54,14 +60,14 @@ pub fn refers_to(r: u32, g: u32) -> bool
 }
 
 pub fn level_ref(g: u32) -> u32
-    requires { ⌜ g ≤ 28689 ⌝ }
+    requires { ⌜ g ≤ mostLevels ⌝ }
     ensures { λ r. ⌜ r ≡ levelRef g ⌝ }
 {
     2 * g
 }
 
 pub fn node_ref(i: u32) -> u32
-    requires { ⌜ i ≤ 4096 ⌝ }
+    requires { ⌜ i ≤ maxNodes ⌝ }
     ensures { λ r. ⌜ r ≡ nodeRef i ⌝ }
 {
     2 * i + 1
@@ -102,38 +108,43 @@ pub fn next_at(nodes: &[u32], i: u32) -> u32
     at(nodes, node_place(i, 1))
 }
 
-pub fn previous_at(levels: &[u32], g: u32) -> u32
-    ensures { λ r. ⌜ r ≡ previousAt 3 (now (levels .entry)) g ⌝ }
+pub fn previous_at(w: u32, levels: &[u32], g: u32) -> u32
+    requires { ⌜ DigitWidth w ⌝ }
+    ensures { λ r. ⌜ r ≡ previousAt w (now (levels .entry)) g ⌝ }
 {
-    at(levels, level_place(g, 0))
+    at(levels, level_place(w, g, 0))
 }
 
-pub fn depth_at(levels: &[u32], g: u32) -> u32
-    ensures { λ r. ⌜ r ≡ depthAt 3 (now (levels .entry)) g ⌝ }
+pub fn depth_at(w: u32, levels: &[u32], g: u32) -> u32
+    requires { ⌜ DigitWidth w ⌝ }
+    ensures { λ r. ⌜ r ≡ depthAt w (now (levels .entry)) g ⌝ }
 {
-    at(levels, level_place(g, 1))
+    at(levels, level_place(w, g, 1))
 }
 
-fn entry_at(levels: &[u32], g: u32, e: u32) -> u32
-    ensures { λ r. ⌜ r ≡ entryAt 3 (now (levels .entry)) g e ⌝ }
+fn entry_at(w: u32, levels: &[u32], g: u32, e: u32) -> u32
+    requires { ⌜ DigitWidth w ⌝ }
+    ensures { λ r. ⌜ r ≡ entryAt w (now (levels .entry)) g e ⌝ }
 {
-    at(levels, level_place(g, 2 + (e as usize)))
+    at(levels, level_place(w, g, 2 + (e as usize)))
 }
 
 // The entry that a pixel number picks in level g.
-pub fn entry_cell(levels: &[u32], g: u32, pixel: u32) -> Cell
-    ensures { λ r. ⌜ r ≡ entryCell 3 (now (levels .entry)) g pixel ⌝ }
+pub fn entry_cell(w: u32, levels: &[u32], g: u32, pixel: u32) -> Cell
+    requires { ⌜ DigitWidth w ⌝ }
+    ensures { λ r. ⌜ r ≡ entryCell w (now (levels .entry)) g pixel ⌝ }
 {
-    let d = octal_digit(pixel, depth_at(levels, g));
+    let d = digit(w, pixel, depth_at(w, levels, g));
     Cell::Entry(g, d)
 }
 
 // The word in a cell.
-pub fn cell_at(x: Cell, nodes: &[u32], levels: &[u32]) -> u32
-    ensures { λ r. ⌜ r ≡ cellAt 3 (memory (now (nodes .entry)) (now (levels .entry))) x ⌝ }
+pub fn cell_at(w: u32, x: Cell, nodes: &[u32], levels: &[u32]) -> u32
+    requires { ⌜ DigitWidth w ⌝ }
+    ensures { λ r. ⌜ r ≡ cellAt w (memory (now (nodes .entry)) (now (levels .entry))) x ⌝ }
 {
     match x {
-        Cell::Entry(g, e) => entry_at(levels, g, e),
+        Cell::Entry(g, e) => entry_at(w, levels, g, e),
         Cell::Next(i) => next_at(nodes, i),
     }
 }
@@ -146,12 +157,13 @@ pub fn set_next(nodes: &mut [u32], i: u32, v: u32)
 }
 
 // A word is written to a cell.
-pub fn set_cell(x: Cell, v: u32, nodes: &mut [u32], levels: &mut [u32])
-    ensures { λ r. ⌜ memory (now (nodes .exit)) (now (levels .exit)) ≡ setCell 3 (memory (now (nodes .entry)) (now (levels .entry))) x v ⌝ }
+pub fn set_cell(w: u32, x: Cell, v: u32, nodes: &mut [u32], levels: &mut [u32])
+    requires { ⌜ DigitWidth w ⌝ }
+    ensures { λ r. ⌜ memory (now (nodes .exit)) (now (levels .exit)) ≡ setCell w (memory (now (nodes .entry)) (now (levels .entry))) x v ⌝ }
 {
     match x {
         Cell::Entry(g, e) => {
-            put(levels, level_place(g, 2 + (e as usize)), v);
+            put(levels, level_place(w, g, 2 + (e as usize)), v);
         }
         Cell::Next(i) => {
             set_next(nodes, i, v);
@@ -160,12 +172,13 @@ pub fn set_cell(x: Cell, v: u32, nodes: &mut [u32], levels: &mut [u32])
 }
 
 // Cell x is exchanged from a to b: b is written only if it holds a. The word that it held.
-pub fn exchange(x: Cell, a: u32, b: u32, nodes: &mut [u32], levels: &mut [u32]) -> u32
-    ensures { λ r. ⌜ exchanged r (memory (now (nodes .exit)) (now (levels .exit))) ≡ exchange 3 (memory (now (nodes .entry)) (now (levels .entry))) x a b ⌝ }
+pub fn exchange(w: u32, x: Cell, a: u32, b: u32, nodes: &mut [u32], levels: &mut [u32]) -> u32
+    requires { ⌜ DigitWidth w ⌝ }
+    ensures { λ r. ⌜ exchanged r (memory (now (nodes .exit)) (now (levels .exit))) ≡ exchange w (memory (now (nodes .entry)) (now (levels .entry))) x a b ⌝ }
 {
-    let word = cell_at(x, nodes, levels);
+    let word = cell_at(w, x, nodes, levels);
     if word == a {
-        set_cell(x, b, nodes, levels);
+        set_cell(w, x, b, nodes, levels);
     }
     word
 }
@@ -179,23 +192,25 @@ pub fn fill_node(nodes: &mut [u32], i: u32, pixel: u32, next: u32)
 }
 
 // Level g gets its previous level and depth.
-fn fill_head(levels: &mut [u32], g: u32, previous: u32, depth: u32)
-    ensures { λ r. ⌜ now (levels .exit) ≡ set (set (now (levels .entry)) (10 * g) previous) (10 * g + 1) depth ⌝ }
+fn fill_head(w: u32, levels: &mut [u32], g: u32, previous: u32, depth: u32)
+    requires { ⌜ DigitWidth w ⌝ }
+    ensures { λ r. ⌜ now (levels .exit) ≡ set (set (now (levels .entry)) (levelWords w * g) previous) (levelWords w * g + 1) depth ⌝ }
 {
-    put(levels, level_place(g, 0), previous);
-    put(levels, level_place(g, 1), depth);
+    put(levels, level_place(w, g, 0), previous);
+    put(levels, level_place(w, g, 1), depth);
 }
 
 // Level g gets its previous level and depth, and entries that refer to itself.
-pub fn fill_level(levels: &mut [u32], g: u32, previous: u32, depth: u32)
-    requires { ⌜ g ≤ 28689 ⌝ }
-    ensures { λ r. ⌜ now (levels .exit) ≡ fillLevel 3 (now (levels .entry)) g previous depth ⌝ }
+pub fn fill_level(w: u32, levels: &mut [u32], g: u32, previous: u32, depth: u32)
+    requires { ⌜ DigitWidth w ⌝ }
+    requires { ⌜ g ≤ mostLevels ⌝ }
+    ensures { λ r. ⌜ now (levels .exit) ≡ fillLevel w (now (levels .entry)) g previous depth ⌝ }
 {
-    fill_head(levels, g, previous, depth);
+    fill_head(w, levels, g, previous, depth);
     fill_words(
         levels,
-        level_place(g, 2),
-        Settings::ENTRIES as usize,
+        level_place(w, g, 2),
+        entries(w) as usize,
         level_ref(g),
     );
 }

@@ -1,5 +1,5 @@
--- Document 01's "Bench cases (P: in the proved table)", and two of document 02. Each row opens a table over words that are all 7, and says what must be answered.
--- Relies on the operations' definitions at width 3.
+-- Document 01's "Bench cases (P: in the proved table)", and rows of document 02. Each row opens a table over words that are all 7, and says what must be answered.
+-- Document 01's rows are at width 3, and rows at the other widths follow them. Relies on the operations' definitions.
 use Prim.Native.Nat.{ℕ, zero, suc, _*_}
 use mathlib.Core.Bool.{Bool, true, false}
 use mathlib.Core.List.{List, [], _∷_, _++_}
@@ -29,16 +29,21 @@ pub data Line : Type 0 where
   lists : List ℕ → ℕ → ℕ → Line
   taken : ℕ → ℕ → Line
 
--- workers, chain limit, nodes, the number that the opening has, and the lines after it
+-- width, workers, chain limit, nodes, the number that the opening has, and the lines after it
 pub record Row : Type 0 where
+  pub width : ℕ
   pub workers : ℕ
   pub limit : ℕ
   pub nodes : ℕ
   pub number : ℕ
   pub lines : List Line
 
+abbrev pub rowAt : ℕ → ℕ → ℕ → ℕ → ℕ → List Line → Row
+rowAt w k l n q ls = record { width = w; workers = k; limit = l; nodes = n; number = q; lines = ls }
+
+-- document 01's width
 abbrev pub row : ℕ → ℕ → ℕ → ℕ → List Line → Row
-row k l n q ls = record { workers = k; limit = l; nodes = n; number = q; lines = ls }
+row = rowAt 3
 
 -- (0,0) is new 0 after 3 turns
 abbrev pub first : List Line
@@ -61,8 +66,9 @@ race =
 abbrev pub fours : List ℕ
 fours = 0 ∷ 1 ∷ 2 ∷ 3 ∷ []
 
-unfoldable pub table : List Row
-table =
+-- the table in parts, each of which is computed by itself: P1 to P5
+unfoldable pub firstRows : List Row
+firstRows =
     -- P1 Fresh, limit 4: (0,0) is new 0 after 3 turns.
     row 1 4 8 0 (start 0 0 0 0 ∷ runs 0 3 0 (New 0) ∷ taken 1 1 ∷ [])
     -- P2 Again: found 0 after 2.
@@ -73,10 +79,20 @@ table =
     ∷ row 2 4 8 0 (race ++ runs 1 1 8 Nothing ∷ taken 2 1 ∷ [])
     -- P5 Worker 1 then places (512,0): new 1, its spare.
     ∷ row 2 4 8 0 (race ++ start 1 512 0 0 ∷ runs 1 3 0 (New 1) ∷ taken 2 1 ∷ [])
+    ∷ []
+
+-- P6
+unfoldable pub moveRows : List Row
+moveRows =
     -- P6 One worker, limit 1, nodes 2: (0,0), then (0,1) is new 1 after 80 turns, levels taken 8.
-    ∷ row 1 1 2 0 (first ++ start 0 0 1 0 ∷ runs 0 80 0 (New 1) ∷ taken 2 8 ∷ [])
+    row 1 1 2 0 (first ++ start 0 0 1 0 ∷ runs 0 80 0 (New 1) ∷ taken 2 8 ∷ [])
+    ∷ []
+
+-- P7 to P11
+unfoldable pub fullRows : List Row
+fullRows =
     -- P7 Nodes 1, limit 4, (0,0) placed: (1,1) is full on turn 4;
-    ∷ row 1 4 1 0 (first ++ start 0 1 1 0 ∷ runs 0 4 9 Full ∷ taken 1 1 ∷ [])
+    row 1 4 1 0 (first ++ start 0 1 1 0 ∷ runs 0 4 9 Full ∷ taken 1 1 ∷ [])
     -- P8 (512,0) on turn 2;
     ∷ row 1 4 1 0 (first ++ start 0 512 0 0 ∷ runs 0 2 9 Full ∷ taken 1 1 ∷ [])
     -- P9 (0,0) found 0.
@@ -87,23 +103,55 @@ table =
     ∷ row 1 8 1 0 (first ++ [])
     ∷ row 1 0 1 1 []
     ∷ row 1 9 1 1 []
-    -- P12 Worker 15 of 16 passes, 16 gives 4.
-    ∷ row 16 8 1 0 (start 16 0 0 4 ∷ start 15 0 0 0 ∷ runs 15 3 0 (New 0) ∷ [])
-    -- Document 02, how often exchanges fail: four workers race for one pixel, one exchange is done and three fail, which is the bound.
-    ∷ row 4 4 8 0 (start 0 0 0 0 ∷ start 1 0 0 0 ∷ start 2 0 0 0 ∷ start 3 0 0 0 ∷ lists (fours ++ fours ++ fours) 1 3 ∷ taken 4 1 ∷ [])
-    -- P6 as lists: the second call closes seven chains, each Move sets one node, and the call puts its own: 15 exchanges, none fails.
+    ∷ []
+
+-- P12 Worker 15 of 16 passes, 16 gives 4.
+abbrev pub workerRow : Row
+workerRow = row 16 8 1 0 (start 16 0 0 4 ∷ start 15 0 0 0 ∷ runs 15 3 0 (New 0) ∷ [])
+
+-- document 02, how often exchanges fail
+unfoldable pub exchangeRows : List Row
+exchangeRows =
+    -- four workers race for one pixel, one exchange is done and three fail, which is the bound
+    row 4 4 8 0 (start 0 0 0 0 ∷ start 1 0 0 0 ∷ start 2 0 0 0 ∷ start 3 0 0 0 ∷ lists (fours ++ fours ++ fours) 1 3 ∷ taken 4 1 ∷ [])
+    -- P6 as lists: the second call closes seven chains, each Move sets one node, and the call puts its own: 15 exchanges, none fails
     ∷ row 1 1 2 0 (start 0 0 0 0 ∷ lists (replicate 3 0) 1 0 ∷ start 0 0 1 0 ∷ lists (replicate 80 0) 15 0 ∷ taken 2 8 ∷ [])
     ∷ []
 
+-- P6 at the other widths: 11 turns a level and 3. Width 2
+unfoldable pub narrowRows : List Row
+narrowRows =
+    rowAt 2 1 1 2 0 (first ++ start 0 0 1 0 ∷ runs 0 124 0 (New 1) ∷ taken 2 12 ∷ [])
+    ∷ []
+
+-- widths 4 and 6
+unfoldable pub wideRows : List Row
+wideRows =
+    rowAt 4 1 1 2 0 (first ++ start 0 0 1 0 ∷ runs 0 58 0 (New 1) ∷ taken 2 6 ∷ [])
+    ∷ rowAt 6 1 1 2 0 (first ++ start 0 0 1 0 ∷ runs 0 36 0 (New 1) ∷ taken 2 4 ∷ [])
+    ∷ []
+
+-- document 02: "another width is refusal 1"
+unfoldable pub otherWidths : List Row
+otherWidths =
+    rowAt 0 1 1 2 1 []
+    ∷ rowAt 1 1 1 2 1 []
+    ∷ rowAt 5 1 1 2 1 []
+    ∷ rowAt 7 1 1 2 1 []
+    ∷ []
+
+unfoldable pub table : List Row
+table = firstRows ++ (moveRows ++ (fullRows ++ ((workerRow ∷ []) ++ (exchangeRows ++ (narrowRows ++ (wideRows ++ otherWidths))))))
+
 -- the settings and areas that a row's opening is given: every word, also nodes taken and levels taken, is 7
 abbrev pub given : Row → Settings
-given r = record { workers = r .workers; limit = r .limit; nodes = r .nodes; «nodes_taken» = 7; «levels_taken» = 7 }
+given r = record { workers = r .workers; limit = r .limit; nodes = r .nodes; «nodes_taken» = 7; «levels_taken» = 7; width = r .width }
 
 unfoldable pub lent : Row → Areas
 lent r =
     areas (replicate (nodeWords * r .nodes) 7)
-    (replicate (levelWords 3 * levelCount 3 (given r)) 7)
-    (replicate (workerWords 3 * r .workers) 7)
+    (replicate (levelWords (r .width) * levelCount (r .width) (given r)) 7)
+    (replicate (workerWords * r .workers) 7)
 
 -- a reply has the number and the answer
 unfoldable pub gives : Reply → ℕ → Answer → Bool
@@ -112,17 +160,17 @@ gives r n a = both (eqb (r .number) n) (both (eqb (answerNo (r .answer)) (answer
 -- k turns of worker i: each but the last goes on
 unfoldable pub runsOf : ℕ → ℕ → ℕ → Answer → State → Bool × State
 runsOf i zero n a x = (false, x)
-runsOf i (suc zero) n a x = (gives (happens 3 (turns i) x .reply) n a, after (happens 3 (turns i) x))
-runsOf i (suc (suc k)) n a x = more (runsOf i (suc k) n a (after (happens 3 (turns i) x)))
+runsOf i (suc zero) n a x = (gives (happens (x .settings .width) (turns i) x .reply) n a, after (happens (x .settings .width) (turns i) x))
+runsOf i (suc (suc k)) n a x = more (runsOf i (suc k) n a (after (happens (x .settings .width) (turns i) x)))
   where
     more : Bool × State → Bool × State
-    more (b, y) = (both (gives (happens 3 (turns i) x .reply) 0 Open) b, y)
+    more (b, y) = (both (gives (happens (x .settings .width) (turns i) x .reply) 0 Open) b, y)
 
 unfoldable pub lineOf : Line → State → Bool × State
-lineOf (start i r c n) x = (eqb (happens 3 (starts i r c) x .reply .number) n, after (happens 3 (starts i r c) x))
+lineOf (start i r c n) x = (eqb (happens (x .settings .width) (starts i r c) x .reply .number) n, after (happens (x .settings .width) (starts i r c) x))
 lineOf (runs i k n a) x = runsOf i k n a x
 lineOf (lists l d f) x =
-    let r = listReport 3 (x .settings) l (length l) (x .areas) in
+    let r = listReport (x .settings .width) (x .settings) l (length l) (x .areas) in
     (both (both (eqb (r .result .reply .number) 0) (eqb (r .result .reply .turns) (length l))) (both (eqb (r .done) d) (eqb (r .failed) f)), after (r .result))
 lineOf (taken n g) x = (both (eqb (x .settings .«nodes_taken») n) (eqb (x .settings .«levels_taken») g), x)
 
@@ -132,5 +180,5 @@ linesPass (l ∷ ls) x = let r = lineOf l x in both (r .0) (linesPass ls (r .1))
 
 unfoldable pub passes : Row → Bool
 passes r =
-    let o = opening 3 (given r) (lent r) in
+    let o = opening (r .width) (given r) (lent r) in
     both (eqb (o .reply .number) (r .number)) (linesPass (r .lines) (after o))

@@ -69,7 +69,7 @@ pub extern "C" fn leafdrum_open(
     levels: &mut [u32],
     workers: &mut [u32],
 ) -> LeafdrumReply
-    ensures { λ r. ⌜ shown r (areas (now (nodes .exit)) (now (levels .exit)) (now (workers .exit))) ≡ exported (opening 3 settings (areas (now (nodes .entry)) (now (levels .entry)) (now (workers .entry)))) ⌝ }
+    ensures { λ r. ⌜ shown r (areas (now (nodes .exit)) (now (levels .exit)) (now (workers .exit))) ≡ exported (opening (settings .width) settings (areas (now (nodes .entry)) (now (levels .entry)) (now (workers .entry)))) ⌝ }
 {
     let r = table::open(settings, nodes, levels, workers);
     numbers(r, 0, 0)
@@ -85,7 +85,7 @@ pub extern "C" fn leafdrum_start(
     levels: &mut [u32],
     workers: &mut [u32],
 ) -> LeafdrumReply
-    ensures { λ r. ⌜ shown r (areas (now (nodes .exit)) (now (levels .exit)) (now (workers .exit))) ≡ exported (start 3 settings worker row column (areas (now (nodes .entry)) (now (levels .entry)) (now (workers .entry)))) ⌝ }
+    ensures { λ r. ⌜ shown r (areas (now (nodes .exit)) (now (levels .exit)) (now (workers .exit))) ≡ exported (start (settings .width) settings worker row column (areas (now (nodes .entry)) (now (levels .entry)) (now (workers .entry)))) ⌝ }
 {
     let r = table::start(settings, worker, row, column, nodes, levels, workers);
     numbers(r, 0, 0)
@@ -99,7 +99,7 @@ pub extern "C" fn leafdrum_turn(
     levels: &mut [u32],
     workers: &mut [u32],
 ) -> LeafdrumReply
-    ensures { λ r. ⌜ shown r (areas (now (nodes .exit)) (now (levels .exit)) (now (workers .exit))) ≡ exported (turn 3 settings worker (areas (now (nodes .entry)) (now (levels .entry)) (now (workers .entry)))) ⌝ }
+    ensures { λ r. ⌜ shown r (areas (now (nodes .exit)) (now (levels .exit)) (now (workers .exit))) ≡ exported (turn (settings .width) settings worker (areas (now (nodes .entry)) (now (levels .entry)) (now (workers .entry)))) ⌝ }
 {
     let r = lists::turn(settings, worker, nodes, levels, workers);
     numbers(r, 0, 0)
@@ -114,7 +114,7 @@ pub extern "C" fn leafdrum_turns(
     levels: &mut [u32],
     workers: &mut [u32],
 ) -> LeafdrumReply
-    ensures { λ r. ⌜ shown r (areas (now (nodes .exit)) (now (levels .exit)) (now (workers .exit))) ≡ exportedList (listReport 3 settings (now (list .entry)) limit (areas (now (nodes .entry)) (now (levels .entry)) (now (workers .entry)))) ⌝ }
+    ensures { λ r. ⌜ shown r (areas (now (nodes .exit)) (now (levels .exit)) (now (workers .exit))) ≡ exportedList (listReport (settings .width) settings (now (list .entry)) limit (areas (now (nodes .entry)) (now (levels .entry)) (now (workers .entry)))) ⌝ }
 {
     let l = lists::turns(settings, list, limit, nodes, levels, workers);
     numbers(l.reply, l.done, l.failed)
@@ -128,7 +128,7 @@ pub extern "C" fn leafdrum_last(
     levels: &mut [u32],
     workers: &mut [u32],
 ) -> LeafdrumReply
-    ensures { λ r. ⌜ shown r (areas (now (nodes .exit)) (now (levels .exit)) (now (workers .exit))) ≡ exported (lastAnswer 3 settings worker (areas (now (nodes .entry)) (now (levels .entry)) (now (workers .entry)))) ⌝ }
+    ensures { λ r. ⌜ shown r (areas (now (nodes .exit)) (now (levels .exit)) (now (workers .exit))) ≡ exported (lastAnswer (settings .width) settings worker (areas (now (nodes .entry)) (now (levels .entry)) (now (workers .entry)))) ⌝ }
 {
     let r = table::last_answer(settings, worker, nodes, levels, workers);
     numbers(r, 0, 0)
@@ -137,7 +137,7 @@ pub extern "C" fn leafdrum_last(
 // The number of levels that the level area holds; 0 for settings out of range.
 #[no_mangle]
 pub extern "C" fn leafdrum_level_count(settings: Settings) -> u32
-    ensures { λ r. ⌜ r ≡ countOrZero 3 settings ⌝ }
+    ensures { λ r. ⌜ r ≡ countOrZero (settings .width) settings ⌝ }
 {
     if settings.in_range() {
         settings.level_count()

@@ -46,7 +46,7 @@ fn main() {
     let mut input = [0u8; 65537];
     let mut nodes = [0u32; 256];
     let mut levels = [0u32; 9130];
-    let mut workers = [0u32; 2048];
+    let mut workers = [0u32; 4096];
     let n = io::read_full(0, &mut input);
     put_all(&input[..n], &mut nodes, &mut levels, &mut workers);
 }

@@ -4,3 +4,4 @@ pub mod ListCut
 pub mod Tells
 pub mod One
 pub mod Ways
+pub mod Carried

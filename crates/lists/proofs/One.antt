@@ -13,8 +13,7 @@ use lib.ListN.{length}
 use borrow.Author.Tests.{ne-eqb, eq-eqb, ltb-true}
 use Rattle.words.specs.Choice.{pick, every}
 use Rattle.words.proofs.Choice.{pick-true, pick-false, both-true}
-use Rattle.words.specs.Digits.{depths}
-use Rattle.settings.specs.Sizes.{question1, question3, workerWords, maxMoves}
+use Rattle.settings.specs.Sizes.{question1, question3, workerWords}
 use Rattle.settings.specs.Cut.{firstThree}
 use Rattle.settings.specs.declared.Settings.{Settings}
 use Rattle.areas.specs.Memory.{Areas, areas}
@@ -42,7 +41,8 @@ use Rattle.table.specs.Cut.{firstFour}
 use Rattle.table.proofs.Questions.{both-zero}
 use Rattle.turns.proofs.Ways.{four-yes, four-inside}
 use Rattle.lists.specs.declared.Tally.{Tally}
-use Rattle.lists.specs.Cut.{Run, run, countedBy, ranOf, ranBy, ranEntry, ranList, numberBy, oneReply}
+use Rattle.lists.specs.declared.Told.{Told}
+use Rattle.lists.specs.Cut.{Run, run, countedBy, ranOf, ranBy, ranEntry, ranList, numberBy, told, replyOf, toldOne}
 use Rattle.lists.proofs.Tells.{act-number}
 
 -- the ways through its functions
@@ -59,19 +59,17 @@ module _ (h : Head) where
   unfolding numberBy
   number-open e z = sym (pick-false _ _ _ (sym e ∙ z))
 
-  module _ (s : Settings) (t : Tally) where
-    pub one-six : {r : Reply} → r ≡ reply 6 Nothing 0 s → t .number ≡ 6 → r ≡ oneReply s t h
-    unfolding oneReply
+  module _ (t : Tally) where
+    pub one-six : {d : Told} → d ≡ told 6 Nothing → t .number ≡ 6 → d ≡ toldOne t h
+    unfolding toldOne
     one-six a e = a ∙ sym (pick-true _ _ _ (eq-eqb _ _ e))
 
-    pub one-done :
-        {r : Reply} {n : ℕ} {a : Answer} {c : Settings}
-        → r ≡ reply n a 0 c → n ≡ numberBy h → a ≡ lastOf h → c ≡ countedBy s t → (t .number ≡ 6 → ⊥) → t .left ≡ 0 → r ≡ oneReply s t h
-    unfolding oneReply
-    one-done p a b c e z = p ∙ rw (a, b, c) (sym (pick-false _ _ _ (ne-eqb _ _ e) ∙ pick-true _ _ _ (eq-eqb _ _ z)))
+    pub one-done : {d : Told} {n : ℕ} {a : Answer} → d ≡ told n a → n ≡ numberBy h → a ≡ lastOf h → (t .number ≡ 6 → ⊥) → t .left ≡ 0 → d ≡ toldOne t h
+    unfolding toldOne
+    one-done p a b e z = p ∙ rw (a, b) (sym (pick-false _ _ _ (ne-eqb _ _ e) ∙ pick-true _ _ _ (eq-eqb _ _ z)))
 
-    pub one-idle : {r : Reply} → r ≡ reply 8 Nothing 0 s → (t .number ≡ 6 → ⊥) → (t .left ≡ 0 → ⊥) → r ≡ oneReply s t h
-    unfolding oneReply
+    pub one-idle : {d : Told} → d ≡ told 8 Nothing → (t .number ≡ 6 → ⊥) → (t .left ≡ 0 → ⊥) → d ≡ toldOne t h
+    unfolding toldOne
     one-idle p e z = p ∙ sym (pick-false _ _ _ (ne-eqb _ _ e) ∙ pick-false _ _ _ (ne-eqb _ _ z))
 
 -- the numbers that a turn gives once questions 1 to 4 are answered yes
@@ -105,14 +103,14 @@ module _ (w : ℕ) (s : Settings) (i : ℕ) (a : Areas) where
   first-among : Yes → Among (firstNo (turnQuestions w s i a))
   unfolding firstFour firstThree turnQuestions
   first-among e =
-      among (question1 s) (question2Of w s a) (question3 w s) (question4 s i) (question6 w s (recordOf w a i) (memoryOf a)) (question8 (recordOf w a i))
-      (question9 s (recordOf w a i)) e
+      among (question1 s) (question2Of w s a) (question3 w s) (question4 s i) (question6 w s (recordOf a i) (memoryOf a)) (question8 (recordOf a i))
+      (question9 s (recordOf a i)) e
 
   numbers : Yes → Among (its .reply .number)
   numbers e = subst Among (sym (turn-number w s i a)) (first-among e)
 
   -- the worker has a call open where its turn was taken
-  taken-open : its .reply .number ≡ 0 → question8 (recordOf w a i) ≡ true
+  taken-open : its .reply .number ≡ 0 → question8 (recordOf a i) ≡ true
   unfolding turnQuestions
   taken-open z =
       let e₀ : firstNo (turnQuestions w s i a) ≡ 0 = sym (turn-number w s i a) ∙ z in
@@ -124,30 +122,30 @@ module _ (w : ℕ) (s : Settings) (i : ℕ) (a : Areas) where
       first-later 8 _ _ (λ y. omega arith) e₆ .0
 
   -- the record tells the reply of a turn that was done
-  abbrev Told : Result → Type 0
-  Told r = r .reply ≡ reply (numberBy (headAt w (r .areas .workers) i)) (lastOf (headAt w (r .areas .workers) i)) 0 (r .reply .settings)
+  abbrev IsTold : Result → Type 0
+  IsTold r = r .reply ≡ reply (numberBy (headAt (r .areas .workers) i)) (lastOf (headAt (r .areas .workers) i)) 0 (r .reply .settings)
 
-  taken-told : workerPlace w i + 10 ≤ length (a .workers) → question8 (recordOf w a i) ≡ true → Told (taken w (act w s (recordOf w a i) (memoryOf a)) i (a .workers))
+  taken-told : workerPlace i + 10 ≤ length (a .workers) → question8 (recordOf a i) ≡ true → IsTold (taken (act w s (recordOf a i) (memoryOf a)) i (a .workers))
   unfolding taken
   taken-told room q =
-      let t : Step = act w s (recordOf w a i) (memoryOf a) in
-      let k : Tells t = act-tells w s (recordOf w a i) (memoryOf a) q in
-      let h : headAt w (store w (t .record′) i (a .workers)) i ≡ t .record′ .head = head-stored w (t .record′) i (a .workers) room in
-      rw (h, act-number w s (recordOf w a i) (memoryOf a) q, k .answer-is) refl
+      let t : Step = act w s (recordOf a i) (memoryOf a) in
+      let k : Tells t = act-tells w s (recordOf a i) (memoryOf a) q in
+      let h : headAt (store (t .record′) i (a .workers)) i ≡ t .record′ .head = head-stored w (t .record′) i (a .workers) room in
+      rw (h, act-number w s (recordOf a i) (memoryOf a) q, k .answer-is) refl
 
-  full-told : workerPlace w i + 10 ≤ length (a .workers) → Told (full w s i a)
+  full-told : workerPlace i + 10 ≤ length (a .workers) → IsTold (full s i a)
   unfolding full fullRecord numberBy lastOf ended kindNo answerOf pick
   full-told room =
-      let h : headAt w (store w (fullRecord (recordOf w a i .head)) i (a .workers)) i ≡ fullRecord (recordOf w a i .head) .head =
-      head-stored w (fullRecord (recordOf w a i .head)) i (a .workers) room
+      let h : headAt (store (fullRecord (recordOf a i .head)) i (a .workers)) i ≡ fullRecord (recordOf a i .head) .head =
+      head-stored w (fullRecord (recordOf a i .head)) i (a .workers) room
       in
       rw h refl
 
-  reply-told : workerPlace w i + 10 ≤ length (a .workers) → Among (its .reply .number) → its .reply .number ≢ 6 → its .reply .number ≢ 8 → Told its
+  reply-told : workerPlace i + 10 ≤ length (a .workers) → Among (its .reply .number) → its .reply .number ≢ 6 → its .reply .number ≢ 8 → IsTold its
   reply-told room (is-six e) p q = absurd (p e)
   reply-told room (is-eight e) p q = absurd (q e)
-  reply-told room (is-none e) p q = subst Told (sym (done-number w s i a e)) (taken-told room (taken-open e))
-  reply-told room (is-nine e) p q = subst Told (sym (nine-is-full w s i a e)) (full-told room)
+  reply-told room (is-none e) p q = subst IsTold (sym (done-number w s i a e)) (taken-told room (taken-open e))
+  reply-told room (is-nine e) p q = subst IsTold (sym (nine-is-full w s i a e)) (full-told room)
 
   -- the list of that entry alone
   abbrev alone : Run
@@ -163,42 +161,44 @@ module _ (w : ℕ) (s : Settings) (i : ℕ) (a : Areas) where
   refused-is : (n : ℕ) → its .reply .number ≡ n → n ≢ 0 → n ≢ 9 → its ≡ refused n s a
   refused-is n e p q = turn-refused w s i a (λ z. p (sym e ∙ z)) (λ z. q (sym e ∙ z)) ∙ ap (λ (k : ℕ). refused k s a) e
 
-  module _ (t : Tally) {r : Reply} {x : Areas} {h : Head} (e : r ≡ oneReply s t h) (f : h ≡ headAt w (x .workers) i) where
-    one-refused : its .reply .number ≡ 6 → ranOf s t x ≡ ran → result r x ≡ its
-    unfolding ranBy oneReply
+  module _ (t : Tally) {d : Told} {c : Settings} {x : Areas} {h : Head} (e : d ≡ toldOne t h) (b : c ≡ countedBy s t) (f : h ≡ headAt (x .workers) i) where
+    one-refused : its .reply .number ≡ 6 → ranOf s t x ≡ ran → result (replyOf d c) x ≡ its
+    unfolding ranBy toldOne
     one-refused n g =
         let k : ranOf s t x ≡ run 6 (state s a) 1 0 0 = g ∙ pick-true _ _ _ (eq-eqb _ _ n) in
-        let u : r ≡ reply 6 Nothing 0 s = e ∙ pick-true _ _ _ (eq-eqb _ _ (ap (λ (y : Run). y .number) k)) in
+        let u : d ≡ told 6 Nothing = e ∙ pick-true _ _ _ (eq-eqb _ _ (ap (λ (y : Run). y .number) k)) in
+        let o : c ≡ s = b ∙ ap (λ (y : Run). y .state′ .settings) k in
         let v : x ≡ a = ap (λ (y : Run). y .state′ .areas) k in
-        rw (u, v) (sym (refused-is 6 n (λ z. omega arith) (λ z. omega arith)))
+        rw (u, o, v) (sym (refused-is 6 n (λ z. omega arith) (λ z. omega arith)))
 
-    one-idled : its .reply .number ≡ 8 → ranOf s t x ≡ ran → result r x ≡ its
-    unfolding ranBy oneReply
+    one-idled : its .reply .number ≡ 8 → ranOf s t x ≡ ran → result (replyOf d c) x ≡ its
+    unfolding ranBy toldOne
     one-idled n g =
         let k : ranOf s t x ≡ alone = g ∙ (pick-false _ _ _ (ne-eqb (its .reply .number) 6 (λ z. omega arith)) ∙ pick-true _ _ _ (eq-eqb _ _ n)) in
         let m : t .number ≡ 0 = ap (λ (y : Run). y .number) k in
-        let o : t .left ≡ 1 = ap (λ (y : Run). y .left) k in
-        let u : r ≡ reply 8 Nothing 0 s = e ∙ (pick-false _ _ _ (ne-eqb (t .number) 6 (λ z. omega arith)) ∙ pick-false _ _ _ (ne-eqb (t .left) 0 (λ z. omega arith))) in
+        let l : t .left ≡ 1 = ap (λ (y : Run). y .left) k in
+        let u : d ≡ told 8 Nothing = e ∙ (pick-false _ _ _ (ne-eqb (t .number) 6 (λ z. omega arith)) ∙ pick-false _ _ _ (ne-eqb (t .left) 0 (λ z. omega arith))) in
+        let o : c ≡ s = b ∙ ap (λ (y : Run). y .state′ .settings) k in
         let v : x ≡ a = ap (λ (y : Run). y .state′ .areas) k in
-        rw (u, v) (sym (refused-is 8 n (λ z. omega arith) (λ z. omega arith)))
+        rw (u, o, v) (sym (refused-is 8 n (λ z. omega arith) (λ z. omega arith)))
 
-    one-taken : its .reply .number ≢ 6 → its .reply .number ≢ 8 → Told its → ranOf s t x ≡ ran → result r x ≡ its
-    unfolding ranBy oneReply
-    one-taken p q told g =
+    one-taken : its .reply .number ≢ 6 → its .reply .number ≢ 8 → IsTold its → ranOf s t x ≡ ran → result (replyOf d c) x ≡ its
+    unfolding ranBy toldOne
+    one-taken p q y g =
         let k : ranOf s t x ≡ run 0 (after its) 0 _ _ = g ∙ (pick-false _ _ _ (ne-eqb _ _ p) ∙ pick-false _ _ _ (ne-eqb _ _ q)) in
         let m : t .number ≡ 0 = ap (λ (y : Run). y .number) k in
-        let o : t .left ≡ 0 = ap (λ (y : Run). y .left) k in
-        let c : countedBy s t ≡ its .reply .settings = ap (λ (y : Run). y .state′ .settings) k in
+        let l : t .left ≡ 0 = ap (λ (y : Run). y .left) k in
+        let o : c ≡ its .reply .settings = b ∙ ap (λ (y : Run). y .state′ .settings) k in
         let v : x ≡ its .areas = ap (λ (y : Run). y .state′ .areas) k in
-        let d : h ≡ headAt w (its .areas .workers) i = f ∙ ap (λ (y : Areas). headAt w (y .workers) i) v in
-        let u : r ≡ its .reply =
-        e ∙ (pick-false _ _ _ (ne-eqb (t .number) 6 (λ z. omega arith)) ∙ (pick-true _ _ _ (eq-eqb _ _ o)
-        ∙ (ap (λ (y : Head). reply (numberBy y) (lastOf y) 0 (countedBy s t)) d
-        ∙ (ap (λ (y : Settings). reply (numberBy (headAt w (its .areas .workers) i)) (lastOf (headAt w (its .areas .workers) i)) 0 y) c ∙ sym told))))
+        let w′ : h ≡ headAt (its .areas .workers) i = f ∙ ap (λ (y : Areas). headAt (y .workers) i) v in
+        let u : d ≡ told (numberBy (headAt (its .areas .workers) i)) (lastOf (headAt (its .areas .workers) i)) =
+        e ∙ (pick-false _ _ _ (ne-eqb (t .number) 6 (λ z. omega arith)) ∙ (pick-true _ _ _ (eq-eqb _ _ l)
+        ∙ ap (λ (y : Head). told (numberBy y) (lastOf y)) w′))
         in
-        rw (u, v) refl
+        let r : replyOf d c ≡ its .reply = ap (λ (y : Told). replyOf y c) u ∙ (ap (λ (y : Settings). reply (numberBy (headAt (its .areas .workers) i)) (lastOf (headAt (its .areas .workers) i)) 0 y) o ∙ sym y) in
+        rw v (ap (λ (y : Reply). result y (its .areas)) r)
 
-    by-number : Among (its .reply .number) → workerPlace w i + 10 ≤ length (a .workers) → ranOf s t x ≡ ran → result r x ≡ its
+    by-number : Among (its .reply .number) → workerPlace i + 10 ≤ length (a .workers) → ranOf s t x ≡ ran → result (replyOf d c) x ≡ its
     by-number (is-six n) room g = one-refused n g
     by-number (is-eight n) room g = one-idled n g
     by-number (is-none n) room g = let p : its .reply .number ≢ 6 = λ z. omega arith in let q : its .reply .number ≢ 8 = λ z. omega arith in one-taken p q (reply-told room (is-none n) p q) g
@@ -206,24 +206,24 @@ module _ (w : ℕ) (s : Settings) (i : ℕ) (a : Areas) where
 
 -- one turn
 pub one-is :
-    (s : Settings) (i : ℕ) (n g k : List ℕ) (t : Tally) {r : Reply} {x : Areas} {h : Head} {l : List ℕ}
-    → r ≡ oneReply s t h → h ≡ headAt 3 (x .workers) i → ranOf s t x ≡ ranList 3 l (run 0 (state s (areas n g k)) 1 0 0) → l ≡ i ∷ []
-    → firstFour 3 s i (length n) (length g) (length k) ≡ 0 → result r x ≡ turn 3 s i (areas n g k)
-unfolding workerPlace workerWords maxMoves depths
-one-is s i n g k t e f p q z =
-    let room : 128 * i + 128 ≤ length k = four-inside s i (length n) (length g) (length k) refl z in
-    by-number 3 s i (areas n g k) t e f (numbers 3 s i (areas n g k) z) (omega arith)
-    (p ∙ (ap (λ (y : List ℕ). ranList 3 y (run 0 (state s (areas n g k)) 1 0 0)) q ∙ ran-one 3 s i (areas n g k)))
+    (s : Settings) (i : ℕ) (n g k : List ℕ) (t : Tally) {d : Told} {c : Settings} {x : Areas} {h : Head} {l : List ℕ}
+    → d ≡ toldOne t h → c ≡ countedBy s t → h ≡ headAt (x .workers) i → ranOf s t x ≡ ranList (s .width) l (run 0 (state s (areas n g k)) 1 0 0) → l ≡ i ∷ []
+    → firstFour (s .width) s i (length n) (length g) (length k) ≡ 0 → result (replyOf d c) x ≡ turn (s .width) s i (areas n g k)
+unfolding workerPlace
+one-is s i n g k t e b f p q z =
+    let room : workerWords * i + workerWords ≤ length k = four-inside (s .width) s i (length n) (length g) (length k) refl z in
+    by-number (s .width) s i (areas n g k) t e b f (numbers (s .width) s i (areas n g k) z) (omega arith)
+    (p ∙ (ap (λ (y : List ℕ). ranList (s .width) y (run 0 (state s (areas n g k)) 1 0 0)) q ∙ ran-one (s .width) s i (areas n g k)))
 
 -- what a list of the entry requires
-module _ (s : Settings) (i n g k : ℕ) (z : firstFour 3 s i n g k ≡ 0) where
-  pub four-three : firstThree 3 s n g k ≡ 0
+module _ (s : Settings) (i n g k : ℕ) (z : firstFour (s .width) s i n g k ≡ 0) where
+  pub four-three : firstThree (s .width) s n g k ≡ 0
   unfolding firstFour
-  four-three = both-zero (firstThree 3 s n g k) _ z .0
+  four-three = both-zero (firstThree (s .width) s n g k) _ z .0
 
   four-below : ltb i (s .workers) ≡ true
   unfolding firstFour question4
-  four-below = four-yes _ (both-zero (firstThree 3 s n g k) _ z .1)
+  four-below = four-yes _ (both-zero (firstThree (s .width) s n g k) _ z .1)
 
   four-small : i ≤ 15
   four-small =

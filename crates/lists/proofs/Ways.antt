@@ -16,6 +16,7 @@ use borrow.Author.Tests.{eq-eqb, ne-eqb, eqb-false, lt-ltb, ltb-true}
 use Rattle.words.specs.Choice.{pick, both, every, asks, firstNo}
 use Rattle.words.proofs.Choice.{true-false, pick-both, pick-true, pick-false, both-left, both-right}
 use Rattle.settings.specs.Cut.{counted, firstThree, Sized}
+use Rattle.settings.specs.Sizes.{workerWords}
 use Rattle.settings.specs.declared.Settings.{Settings}
 use Rattle.settings.proofs.Laws.{three-yes, sized}
 use Rattle.areas.specs.Memory.{Areas, areas, memory}
@@ -31,7 +32,7 @@ use Rattle.rules.specs.Operations.{Result, result, reply, refused, unlessRefuse
 use Rattle.rules.specs.Lists as many
 use Rattle.rules.specs.Lists.{State, state, after, listQuestions}
 use Rattle.rules.specs.Calls.{turns}
-use Rattle.rules.specs.Sequences.{eventsOf}
+use Rattle.rules.specs.Sequences.{listEvents}
 use Rattle.rules.specs.Exchanges.{exchangeOf, exchangeAt, doneIn, failedIn, total, report, listReport}
 use Rattle.rules.proofs.OneTurn.{six-leaves}
 use Rattle.rules.proofs.Invariant.{SameSizes}
@@ -43,8 +44,8 @@ use Rattle.turns.specs.Cut.{turnHere, turnDone, Did, did, didOf, didHere}
 use Rattle.turns.specs.declared.Done.{Done}
 use Rattle.turns.proofs.Ways.{three-of, three-inside, here-idle, here-turn}
 use Rattle.lists.specs.declared.Tally.{Tally}
-use Rattle.lists.specs.declared.Listed.{Listed}
-use Rattle.lists.specs.Cut.{Run, run, countedBy, ranOf, tally, sixTally, idleTally, nextTally, openTally, reported, overOf, ranBy, ranEntry, ranList, ranReport}
+use Rattle.lists.specs.declared.Told.{Told}
+use Rattle.lists.specs.Cut.{Run, run, countedBy, ranOf, tally, sixTally, idleTally, nextTally, openTally, idleNumber, told, replyOf, listed, ranBy, ranEntry, ranList, ranReport}
 use Rattle.lists.proofs.ListCut.{stopped, refused-on, list-cut}
 
 -- questions 1 to 3 as the code asks them
@@ -52,7 +53,7 @@ pub of-three : (w : ℕ) (s : Settings) (n g k : List ℕ) {workers : ℕ} → T
 unfolding firstThree firstNo pick
 of-three w s n g k y = simp (y .one, y .two, y .three)
 
--- the tally after an entry, and whether the list goes no further
+-- the tally after an entry
 module _ (t : Tally) where
   pub idle-skipped : (v : ℕ) {b : Bool} → b ≡ leb v 3 → b ≡ true → t ≡ idleTally t v
   unfolding idleTally
@@ -83,47 +84,14 @@ module _ (t : Tally) where
   unfolding doneIn failedIn
   open-failed d a e h = a ∙ rw add-zero at (open-on d Failed h e)
 
-  pub over-left : t .left ≡ 0 → true ≡ overOf t
-  unfolding overOf
-  over-left z = sym (pick-true _ _ _ (eq-eqb _ _ z))
-
-  pub over-not : (t .left ≡ 0 → ⊥) → t .number ≡ 0 → false ≡ overOf t
-  unfolding overOf
-  over-not h z = sym (pick-false _ _ _ (ne-eqb _ _ h) ∙ pick-true _ _ _ (eq-eqb _ _ z))
-
-  pub over-six : (t .left ≡ 0 → ⊥) → (t .number ≡ 0 → ⊥) → true ≡ overOf t
-  unfolding overOf
-  over-six h g = sym (pick-false _ _ _ (ne-eqb _ _ h) ∙ pick-false _ _ _ (ne-eqb _ _ g))
-
-  -- a list that is not over goes on
-  pub goes-left : {b : Bool} → b ≡ overOf t → b ≡ false → 1 ≤ t .left
-  unfolding overOf
-  goes-left e z = by (ℕ-discrete (t .left) 0)
-    where
-      by : Dec (t .left ≡ 0) → 1 ≤ t .left
-      by (yes y) = absurd (true-false (sym (pick-true _ _ _ (eq-eqb _ _ y)) ∙ sym e ∙ z))
-      by (no h) = omega arith
-
-  pub goes-zero : {b : Bool} → b ≡ overOf t → b ≡ false → t .number ≡ 0
-  unfolding overOf
-  goes-zero e z = by (ℕ-discrete (t .left) 0) (ℕ-discrete (t .number) 0)
-    where
-      by : Dec (t .left ≡ 0) → Dec (t .number ≡ 0) → t .number ≡ 0
-      by (yes y) d = absurd (true-false (sym (pick-true _ _ _ (eq-eqb _ _ y)) ∙ sym e ∙ z))
-      by (no h) (yes y) = y
-      by (no h) (no g) = absurd (true-false (sym (pick-false _ _ _ (ne-eqb _ _ h) ∙ pick-false _ _ _ (ne-eqb _ _ g)) ∙ sym e ∙ z))
-
-  pub ended-is : (s : Settings) (limit : ℕ) {d : ℕ} {n : Settings} → d ≡ limit - t .left → n ≡ countedBy s t → reply (t .number) Nothing d n ≡ reply (t .number) Nothing (limit - t .left) (countedBy s t)
-  ended-is s limit e f = rw (e, f) refl
-
 -- the settings of a turn that leaves the sizes, by its counts
 counted-is : (s n : Settings) → SameSizes s n → counted s (n .«nodes_taken») (n .«levels_taken») ≡ n
 unfolding counted
-counted-is s n k = rw (← k .workers-is, ← k .limit-is, ← k .nodes-is) refl
+counted-is s n k = rw (← k .width-is, ← k .workers-is, ← k .limit-is, ← k .nodes-is) refl
 
 same-sizes : (s n : Settings) (i g : ℕ) → SameSizes (counted s i g) n → SameSizes s n
 unfolding counted
-same-sizes s n i g y = record { workers-is = y .workers-is; limit-is = y .limit-is; nodes-is = y .nodes-is }
+same-sizes s n i g y = record { width-is = y .width-is; workers-is = y .workers-is; limit-is = y .limit-is; nodes-is = y .nodes-is }
 
 -- one entry of a list that goes on
 module _ (w : ℕ) (s : Settings) (t : Tally) (i : ℕ) (n g k : List ℕ) (z : t .number ≡ 0) (h : 1 ≤ t .left) (r : firstThree w (countedBy s t) (length n) (length g) (length k) ≡ 0) (l : i < s .workers) where
@@ -152,7 +120,7 @@ module _ (w : ℕ) (s : Settings) (t : Tally) (i : ℕ) (n g k : List ℕ) (z : 
   by-six y e = e ∙ sym (entry-by ∙ pick-true _ _ _ (eq-eqb _ _ y))
 
   -- an idle worker
-  pub entry-idle : {u : Tally} {b : Bool} {v : ℕ} → u ≡ idleTally t v → v ≡ headAt w k i .answer → b ≡ eqb (kindNo (headAt w k i .kind)) 0 → b ≡ true → ranOf s u (areas n g k) ≡ ranEntry w (ranOf s t (areas n g k)) i
+  pub entry-idle : {u : Tally} {b : Bool} {v : ℕ} → u ≡ idleTally t v → v ≡ headAt k i .answer → b ≡ eqb (kindNo (headAt k i .kind)) 0 → b ≡ true → ranOf s u (areas n g k) ≡ ranEntry w (ranOf s t (areas n g k)) i
   unfolding idleTally ranBy
   entry-idle {u} {b} {v} f e q y = by (leb v 3) refl (sym (here-idle w now i n g k e q y) ∙ turn-is)
     where
@@ -166,22 +134,21 @@ module _ (w : ℕ) (s : Settings) (t : Tally) (i : ℕ) (n g k : List ℕ) (z : 
           by-six m (ap (λ (o : Tally). ranOf s o (areas n g k)) (f ∙ pick-false _ _ _ d))
 
   -- a worker with a call open is not refused by 8
-  not-eight : 1 ≤ kindNo (headAt w k i .kind) → its .reply .number ≢ 8
+  not-eight : 1 ≤ kindNo (headAt k i .kind) → its .reply .number ≢ 8
   unfolding question8 question7 load
   not-eight o e =
-      let y : not (eqb (kindNo (headAt w k i .kind)) 0) ≡ false = eight-idle w (state now (areas n g k)) i e in
-      let v : not (eqb (kindNo (headAt w k i .kind)) 0) ≡ true = ap not (ne-eqb (kindNo (headAt w k i .kind)) 0 (λ p. omega arith)) in
+      let y : not (eqb (kindNo (headAt k i .kind)) 0) ≡ false = eight-idle w (state now (areas n g k)) i e in
+      let v : not (eqb (kindNo (headAt k i .kind)) 0) ≡ true = ap not (ne-eqb (kindNo (headAt k i .kind)) 0 (λ p. omega arith)) in
       true-false (sym v ∙ y)
 
-  pub entry-open : {u : Tally} {d : Done} {b : Areas} {m : Settings} → u ≡ openTally t d → did d b ≡ didHere w m i (areas n g k) → m ≡ now → 1 ≤ kindNo (headAt w k i .kind) → ranOf s u b ≡ ranEntry w (ranOf s t (areas n g k)) i
-  unfolding openTally ranBy didOf turnDone exchangeAt
-  entry-open {u} {d} {b} {m} f e p o = by (ℕ-discrete (its .reply .number) 6)
+  pub entry-open : {u : Tally} {d : Done} {b : Areas} {m : Settings} → u ≡ openTally t d → did d b ≡ didHere (m .width) m i (areas n g k) → m ≡ now → s .width ≡ w → 1 ≤ kindNo (headAt k i .kind) → ranOf s u b ≡ ranEntry w (ranOf s t (areas n g k)) i
+  unfolding openTally ranBy didOf turnDone exchangeAt counted
+  entry-open {u} {d} {b} {m} f e p v o = by (ℕ-discrete (its .reply .number) 6)
     where
-      x : turnHere w m i (areas n g k) ≡ its
-      x = ap (λ (y : Settings). turnHere w y i (areas n g k)) p ∙ turn-is
-
       did-is : did d b ≡ did (turnDone (its .reply .number) (its .reply .settings) made) (its .areas)
-      did-is = e ∙ ap (didOf (exchangeOf w (recordOf w (areas n g k) i) (memory n g))) x
+      did-is =
+          e ∙ ap (λ (y : Settings). didHere (y .width) y i (areas n g k)) p ∙ ap (λ (y : ℕ). didHere y now i (areas n g k)) v
+          ∙ ap (didOf (exchangeOf w (recordOf (areas n g k) i) (memory n g))) turn-is
 
       by : Dec (its .reply .number ≡ 6) → ranOf s u b ≡ ranEntry w (ranOf s t (areas n g k)) i
       by (yes y) =
@@ -196,26 +163,46 @@ module _ (w : ℕ) (s : Settings) (t : Tally) (i : ℕ) (n g k : List ℕ) (z : 
           ∙ ap (λ (v : Settings). run 0 (state v (its .areas)) (t .left - 1) (t .done + doneIn made) (t .failed + failedIn made)) (counted-is s (its .reply .settings) q)
           ∙ sym (entry-by ∙ pick-false _ _ _ (ne-eqb (its .reply .number) 6 y) ∙ pick-false _ _ _ (ne-eqb (its .reply .number) 8 (not-eight o)))
 
+-- a turn of an idle worker
+module _ (v : ℕ) {b : Bool} (e : b ≡ leb v 3) where
+  pub idle-eight : b ≡ true → 8 ≡ idleNumber v
+  unfolding idleNumber
+  idle-eight y = sym (pick-true _ _ _ (sym e ∙ y))
+
+  pub idle-six : b ≡ false → 6 ≡ idleNumber v
+  unfolding idleNumber
+  idle-six y = sym (pick-false _ _ _ (sym e ∙ y))
+
+pub idle-turn-is : (s : Settings) (i : ℕ) (n g k : List ℕ) {d : Told} {b : Bool} {q v : ℕ} → d ≡ told q Nothing → q ≡ idleNumber v → v ≡ headAt k i .answer → b ≡ eqb (kindNo (headAt k i .kind)) 0 → b ≡ true → firstFour (s .width) s i (length n) (length g) (length k) ≡ 0 → result (replyOf d s) (areas n g k) ≡ turn (s .width) s i (areas n g k)
+unfolding idleNumber pick
+idle-turn-is s i n g k {d} {b} {q} {v} a f e o y z =
+    rw (a, f) (by (leb v 3)) ∙ sym (here-idle (s .width) s i n g k e o y) ∙ here-turn (s .width) s i n g k refl z
+  where
+    by : (d : Bool) → refused (pick d 8 6) s (areas n g k) ≡ pick d (refused 8 s (areas n g k)) (refused 6 s (areas n g k))
+    by true = refl
+    by false = refl
+
 -- where a list begins
 module _ (s : Settings) (limit : ℕ) (n g k : List ℕ) where
   begin-is : counted s (s .«nodes_taken») (s .«levels_taken») ≡ s
   unfolding counted
   begin-is = refl
 
-  pub begin-three : firstThree 3 s (length n) (length g) (length k) ≡ 0 → Three 3 (s .workers) (state (countedBy s (tally 0 (s .«nodes_taken») (s .«levels_taken») limit 0 0)) (areas n g k))
-  begin-three e = rw begin-is (three-of 3 s n g k e)
+  pub begin-three : firstThree (s .width) s (length n) (length g) (length k) ≡ 0 → Three (s .width) (s .workers) (state (countedBy s (tally 0 (s .«nodes_taken») (s .«levels_taken») limit 0 0)) (areas n g k))
+  begin-three e = rw begin-is (three-of (s .width) s n g k e)
 
-  pub begin-list : (l : List ℕ) → ranList 3 l (ranOf s (tally 0 (s .«nodes_taken») (s .«levels_taken») limit 0 0) (areas n g k)) ≡ ranList 3 l (run 0 (state s (areas n g k)) limit 0 0)
-  begin-list l = ap (λ (x : Settings). ranList 3 l (run 0 (state x (areas n g k)) limit 0 0)) begin-is
+  pub begin-list : (l : List ℕ) → ranList (s .width) l (ranOf s (tally 0 (s .«nodes_taken») (s .«levels_taken») limit 0 0) (areas n g k)) ≡ ranList (s .width) l (run 0 (state s (areas n g k)) limit 0 0)
+  begin-list l = ap (λ (x : Settings). ranList (s .width) l (run 0 (state x (areas n g k)) limit 0 0)) begin-is
 
 -- an entry's turn has what it requires
 module _ (s : Settings) (t : Tally) (i n g k : ℕ) where
-  pub entry-sized : {m : Settings} → m ≡ countedBy s t → firstThree 3 (countedBy s t) n g k ≡ 0 → Sized m
+  pub entry-sized : {m : Settings} → m ≡ countedBy s t → firstThree (s .width) (countedBy s t) n g k ≡ 0 → Sized m
+  unfolding counted
   entry-sized e f = rw e (sized (countedBy s t) n g k f)
 
-  pub entry-inside : firstThree 3 (countedBy s t) n g k ≡ 0 → i < s .workers → 128 * i + 128 ≤ k
+  pub entry-inside : firstThree (s .width) (countedBy s t) n g k ≡ 0 → i < s .workers → workerWords * i + workerWords ≤ k
   unfolding counted
-  entry-inside f h = three-inside (countedBy s t) i n g k f h
+  entry-inside f h = three-inside (s .width) (countedBy s t) i n g k f h
 
 -- what holds of where a list stands, and after a turn done, holds after an entry
 ran-both : (P : Run → Type 0) (w : ℕ) (u : Run) (i : ℕ) → P u → P (run 6 (u .state′) (u .left) (u .done) (u .failed)) → (u .left ≢ 0 → P (run 0 (after (turn w (u .state′ .settings) i (u .state′ .areas))) (u .left - 1) (u .done + doneIn (exchangeAt w (turns i) (u .state′))) (u .failed + failedIn (exchangeAt w (turns i) (u .state′))))) → P (ranEntry w u i)
@@ -244,16 +231,14 @@ unfolding ranList
 list-all w l k b h = rw drop-of-length-le at b
 
 -- a list that goes no further
-pub list-over : (w : ℕ) (l : List ℕ) (s : Settings) (t : Tally) (a : Areas) {b : Bool} {x : Run} → ranList w l (ranOf s t a) ≡ x → b ≡ overOf t → b ≡ true → ranOf s t a ≡ x
-unfolding overOf
-list-over w l s t a {b} {x} e f z = by (ℕ-discrete (t .left) 0) (ℕ-discrete (t .number) 0)
-  where
-    by : Dec (t .left ≡ 0) → Dec (t .number ≡ 0) → ranOf s t a ≡ x
-    by (yes y) d = sym (stopped w l (ranOf s t a) y) ∙ e
-    by (no h) (no g) = sym (refused-on w l (ranOf s t a) g) ∙ e
-    by (no h) (yes y) =
-        let c : false ≡ true = sym (pick-false _ _ _ (ne-eqb _ _ h) ∙ pick-true _ _ _ (eq-eqb _ _ y)) ∙ sym f ∙ z in
-        absurd (true-false (sym c))
+pub list-left : (w : ℕ) (l : List ℕ) (s : Settings) (t : Tally) (a : Areas) {x : Run} → ranList w l (ranOf s t a) ≡ x → t .left ≡ 0 → ranOf s t a ≡ x
+list-left w l s t a e y = sym (stopped w l (ranOf s t a) y) ∙ e
+
+pub list-six : (w : ℕ) (l : List ℕ) (s : Settings) (t : Tally) (a : Areas) {x : Run} → ranList w l (ranOf s t a) ≡ x → (t .number ≡ 0 → ⊥) → ranOf s t a ≡ x
+list-six w l s t a e g = sym (refused-on w l (ranOf s t a) g) ∙ e
+
+pub left-of : {n : ℕ} → (n ≡ 0 → ⊥) → 1 ≤ n
+left-of h = omega arith
 
 both-swap : (a b c : Bool) → both a (both b c) ≡ both b (both a c)
 unfolding both
@@ -304,22 +289,26 @@ module _ (w : ℕ) (s : Settings) (l : List ℕ) (limit : ℕ) (n g k : List ℕ
   list-first = by-three _ _ _ _
 
   -- a list that is refused has no turns of its own
-  list-no : {r : Listed} {p : Reply} {q : ℕ} → r ≡ reported p 0 0 → p ≡ reply q Nothing 0 s → firstNo (listQuestions w s l (areas n g k)) ≡ q → q ≢ 0 → report (result (r .reply) (areas n g k)) (r .done) (r .failed) ≡ listReport w s l limit (areas n g k)
-  unfolding listReport many.turns unlessRefused eventsOf total pick
-  list-no a c e z =
+  list-no : {t : Tally} {q : ℕ} → t ≡ tally q 0 0 limit 0 0 → firstNo (listQuestions w s l (areas n g k)) ≡ q → q ≢ 0 → listed limit t s (areas n g k) ≡ listReport w s l limit (areas n g k)
+  unfolding listReport many.turns unlessRefused listEvents total pick
+  list-no a e z =
       let b : eqb (firstNo (listQuestions w s l (areas n g k))) 0 ≡ false = ne-eqb _ _ (λ y. z (sym e ∙ y)) in
-      rw (a, c, b) (ap (λ (y : ℕ). report (refused y s (areas n g k)) 0 0) (sym e))
+      let o : limit - limit ≡ 0 = omega arith in
+      rw (a, b, o) (ap (λ (y : ℕ). report (refused y s (areas n g k)) 0 0) (sym e))
 
-  pub turns-refused : {r : Listed} {p : Reply} {q : ℕ} → r ≡ reported p 0 0 → p ≡ reply q Nothing 0 s → q ≡ firstThree w s (length n) (length g) (length k) → (q ≡ 0 → ⊥) → report (result (r .reply) (areas n g k)) (r .done) (r .failed) ≡ listReport w s l limit (areas n g k)
-  turns-refused a c e z = list-no a c (list-first ∙ pick-false _ _ _ (ne-eqb _ _ (λ y. z (e ∙ y))) ∙ sym e) z
+  pub turns-refused : {t : Tally} {q : ℕ} → t ≡ tally q 0 0 limit 0 0 → q ≡ firstThree w s (length n) (length g) (length k) → (q ≡ 0 → ⊥) → listed limit t s (areas n g k) ≡ listReport w s l limit (areas n g k)
+  turns-refused a e z = list-no a (list-first ∙ pick-false _ _ _ (ne-eqb _ _ (λ y. z (e ∙ y))) ∙ sym e) z
 
-  pub turns-four : {r : Listed} {p : Reply} {q : ℕ} {b : Bool} → r ≡ reported p 0 0 → p ≡ reply 4 Nothing 0 s → b ≡ every (λ i. ltb i (s .workers)) l → b ≡ false → q ≡ firstThree w s (length n) (length g) (length k) → q ≡ 0 → report (result (r .reply) (areas n g k)) (r .done) (r .failed) ≡ listReport w s l limit (areas n g k)
+  pub turns-four : {t : Tally} {q m : ℕ} {b : Bool} → t ≡ tally 4 0 0 limit 0 0 → b ≡ every (λ i. ltb i m) l → m ≡ s .workers → b ≡ false → q ≡ firstThree w s (length n) (length g) (length k) → q ≡ 0 → listed limit t s (areas n g k) ≡ listReport w s l limit (areas n g k)
   unfolding question4All question4
-  turns-four a c f y e z = list-no a c (list-first ∙ pick-true _ _ _ (eq-eqb _ _ (sym e ∙ z)) ∙ pick-false _ _ _ (sym f ∙ y)) (λ y. omega arith)
+  turns-four a f o y e z =
+      let v : every (λ i. ltb i (s .workers)) l ≡ false = ap (λ (u : ℕ). every (λ i. ltb i u) l) (sym o) ∙ sym f ∙ y in
+      list-no a (list-first ∙ pick-true _ _ _ (eq-eqb _ _ (sym e ∙ z)) ∙ pick-false _ _ _ v) (λ y. omega arith)
 
-  pub turns-done : (t : Tally) {r : Listed} {p : Reply} {x : Areas} {q : ℕ} {b : Bool} → r ≡ reported p (t .done) (t .failed) → p ≡ reply (t .number) Nothing (limit - t .left) (countedBy s t) → ranOf s t x ≡ ranList w l (run 0 (state s (areas n g k)) limit 0 0) → b ≡ every (λ i. ltb i (s .workers)) l → b ≡ true → q ≡ firstThree w s (length n) (length g) (length k) → q ≡ 0 → report (result (r .reply) x) (r .done) (r .failed) ≡ listReport w s l limit (areas n g k)
-  unfolding listReport many.turns unlessRefused eventsOf ranReport question4All question4 pick
-  turns-done t a c o f y e z =
+  pub turns-done : (t : Tally) {c : Settings} {x : Areas} {q m : ℕ} {b : Bool} → c ≡ countedBy s t → ranOf s t x ≡ ranList w l (run 0 (state s (areas n g k)) limit 0 0) → b ≡ every (λ i. ltb i m) l → m ≡ s .workers → b ≡ true → q ≡ firstThree w s (length n) (length g) (length k) → q ≡ 0 → listed limit t c x ≡ listReport w s l limit (areas n g k)
+  unfolding listReport many.turns unlessRefused listEvents ranReport question4All question4 pick
+  turns-done t a o f p y e z =
       let y₃ = three-yes w s (length n) (length g) (length k) (sym e ∙ z) in
-      let i : eqb (firstNo (listQuestions w s l (areas n g k))) 0 ≡ true = eq-eqb _ _ (list-first ∙ pick-true _ _ _ (eq-eqb _ _ (sym e ∙ z)) ∙ pick-true _ _ _ (sym f ∙ y)) in
-      rw (a, c, i) (ap (ranReport limit) o ∙ list-cut w s l limit (areas n g k) (y₃ .0) (y₃ .1) (y₃ .2) (sym f ∙ y))
+      let v : every (λ i. ltb i (s .workers)) l ≡ true = ap (λ (u : ℕ). every (λ i. ltb i u) l) (sym p) ∙ sym f ∙ y in
+      let i : eqb (firstNo (listQuestions w s l (areas n g k))) 0 ≡ true = eq-eqb _ _ (list-first ∙ pick-true _ _ _ (eq-eqb _ _ (sym e ∙ z)) ∙ pick-true _ _ _ v) in
+      rw (a, i) (ap (ranReport limit) o ∙ list-cut w s l limit (areas n g k) (y₃ .0) (y₃ .1) (y₃ .2) v)

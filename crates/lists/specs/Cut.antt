@@ -1,13 +1,14 @@
 -- The parts in which the code carries out a list of turns. They follow the code's cut and are tied to the operation's definition by
 -- lemmas. Relies on rules for the operations.
 use Prim.Native.Nat.{ℕ, _+_, _-_}
-use mathlib.Core.Bool.{Bool, true, false}
 use mathlib.Core.List.{List, [], _∷_}
 use lib.Dec.{eqb, leb}
+use lib.ListN.{getD}
 use Rattle.words.specs.Choice.{pick}
 use Rattle.settings.specs.Cut.{counted}
 use Rattle.settings.specs.declared.Settings.{Settings}
 use Rattle.areas.specs.Memory.{Areas}
+use Rattle.record.specs.declared.Answer.{Answer}
 use Rattle.record.specs.declared.Answer.the-variants.{Nothing}
 use Rattle.record.specs.declared.Exchange.{Exchange}
 use Rattle.record.specs.declared.Head.{Head}
@@ -20,6 +21,7 @@ use Rattle.rules.specs.Exchanges.{exchangeAt, doneIn, failedIn, Report, report}
 use Rattle.turns.specs.declared.Done.{Done}
 use Rattle.lists.specs.declared.Tally.{Tally}
 use Rattle.lists.specs.declared.Listed.{Listed}
+use Rattle.lists.specs.declared.Told.{Told}
 
 -- where a list of turns stands: 0 or 6, the state, the turns that may still be done, and the exchanges done and failed
 pub record Run : Type 0 where
@@ -80,17 +82,32 @@ openTally t d = pick (eqb (d .number) 6) (sixTally t) (nextTally t d (t .done + 
 abbrev pub reported : Reply → ℕ → ℕ → Listed
 reported r d f = record { reply = r; done = d; failed = f }
 
--- whether a list goes no further
-unfoldable pub overOf : Tally → Bool
-overOf t = pick (eqb (t .left) 0) true (pick (eqb (t .number) 0) false true)
+-- the number of a turn of an idle worker, by the number of its last answer
+unfoldable pub idleNumber : ℕ → ℕ
+idleNumber v = pick (leb v 3) 8 6
 
 -- the number of a turn that was done, as its worker's head tells it; the answer is that of the head
 unfoldable pub numberBy : Head → ℕ
 numberBy h = pick (eqb (kindNo (h .kind)) 0) (pick (eqb (h .answer) 3) 9 0) 0
 
--- the reply of one turn, from the tally of a list of it alone and the worker's head after it
-unfoldable pub oneReply : Settings → Tally → Head → Reply
-oneReply s t h =
-    pick (eqb (t .number) 6)
-    (reply 6 Nothing 0 s)
-    (pick (eqb (t .left) 0) (reply (numberBy h) (lastOf h) 0 (countedBy s t)) (reply 8 Nothing 0 s))
+-- what a turn tells beside the settings, its reply with them, and what a list reports with them
+abbrev pub told : ℕ → Answer → Told
+told n a = record { number = n; answer = a }
+
+abbrev pub replyOf : Told → Settings → Reply
+replyOf d s = reply (d .number) (d .answer) 0 s
+
+abbrev pub listed : ℕ → Tally → Settings → Areas → Report
+listed limit t s a = report (result (reply (t .number) Nothing (limit - t .left) s) a) (t .done) (t .failed)
+
+-- what one turn tells, from the tally of a list of it alone and the worker's head after it
+unfoldable pub toldOne : Tally → Head → Told
+toldOne t h = pick (eqb (t .number) 6) (told 6 Nothing) (pick (eqb (t .left) 0) (told (numberBy h) (lastOf h)) (told 8 Nothing))
+
+-- the settings as the code carries them: six words, and one behind them
+unfoldable pub wordsOf : Settings → List ℕ
+wordsOf s = s .workers ∷ s .limit ∷ s .nodes ∷ s .«nodes_taken» ∷ s .«levels_taken» ∷ s .width ∷ 0 ∷ []
+
+unfoldable pub settingsOf : List ℕ → Settings
+settingsOf c =
+    record { workers = getD c 0 0; limit = getD c 1 0; nodes = getD c 2 0; «nodes_taken» = getD c 3 0; «levels_taken» = getD c 4 0; width = getD c 5 0 }

@@ -3,9 +3,9 @@
 ghost use mathlib.Core.Path.{_≡_};
 ghost use mathlib.Core.Bool.{true};
 ghost use Prim.Native.Nat.{_+_, _-_, _≤_, _<_};
-ghost use lib.Dec.{ltb};
-ghost use lib.ListN.{length};
-ghost use Rattle.words.specs.Choice.{every};
+ghost use lib.Dec.{ltb, eqb};
+ghost use lib.ListN.{length, set};
+ghost use Rattle.words.specs.Choice.{every, pick};
 ghost use Rattle.settings.specs.Cut.{firstThree};
 ghost use Rattle.areas.specs.Memory.{areas};
 ghost use Rattle.record.specs.Kinds.{kindNo};
@@ -14,7 +14,7 @@ ghost use Rattle.rules.specs.Operations.{result, reply, turn};
 ghost use Rattle.table.specs.Cut.{firstFour};
 ghost use Rattle.rules.specs.Lists.{state};
 ghost use Rattle.rules.specs.Exchanges.{report, listReport};
-ghost use Rattle.lists.specs.Cut.{run, countedBy, ranOf, sixTally, idleTally, openTally, nextTally, overOf, ranEntry, ranList, reported, numberBy, oneReply};
+ghost use Rattle.lists.specs.Cut.{run, countedBy, ranOf, tally, sixTally, idleTally, openTally, nextTally, ranEntry, ranList, reported, numberBy, told, toldOne, idleNumber, settingsOf, wordsOf, replyOf, listed};
 use record::Answer;
 use record::Exchange;
 use record::Head;
@@ -25,8 +25,6 @@ use record::idle_fits;
 use settings::Settings;
 use table::answer_in;
 use table::is_idle;
-use table::refusal;
-use table::refused_worker;
 use table::replied;
 use turns::Done;
 use turns::open_here;
@@ -49,6 +47,12 @@ pub struct Listed {
     pub reply: Reply,
     pub done: u32,
     pub failed: u32,
+}
+
+// What a turn tells beside the settings: its number and its answer.
+pub struct Told {
+    pub number: u32,
+    pub answer: Answer,
 }
 
 // The tally after a 6: nothing else has changed.
@@ -117,10 +121,10 @@ fn open_entry(
     requires { ⌜ 1 ≤ t .left ⌝ }
     requires { ⌜ t .done + t .failed + t .left ≤ 4294967295 ⌝ }
     requires { ⌜ t .number ≡ 0 ⌝ }
-    requires { ⌜ firstThree 3 (countedBy s t) (length (now nodes)) (length (now levels)) (length (now workers)) ≡ 0 ⌝ }
+    requires { ⌜ firstThree (s .width) (countedBy s t) (length (now nodes)) (length (now levels)) (length (now workers)) ≡ 0 ⌝ }
     requires { ⌜ i < s .workers ⌝ }
-    requires { ⌜ 1 ≤ kindNo (headAt 3 (now workers) i .kind) ⌝ }
-    ensures { λ u. ⌜ ranOf s u (areas (now (nodes .exit)) (now (levels .exit)) (now (workers .exit))) ≡ ranEntry 3 (ranOf s t (areas (now (nodes .entry)) (now (levels .entry)) (now (workers .entry)))) i ⌝ }
+    requires { ⌜ 1 ≤ kindNo (headAt (now workers) i .kind) ⌝ }
+    ensures { λ u. ⌜ ranOf s u (areas (now (nodes .exit)) (now (levels .exit)) (now (workers .exit))) ≡ ranEntry (s .width) (ranOf s t (areas (now (nodes .entry)) (now (levels .entry)) (now (workers .entry)))) i ⌝ }
 {
     let n = s.with_counts(t.nodes_taken, t.levels_taken);
     let d = open_here(n, i, nodes, levels, workers);
@@ -139,25 +143,15 @@ fn entry(
     requires { ⌜ 1 ≤ t .left ⌝ }
     requires { ⌜ t .done + t .failed + t .left ≤ 4294967295 ⌝ }
     requires { ⌜ t .number ≡ 0 ⌝ }
-    requires { ⌜ firstThree 3 (countedBy s t) (length (now nodes)) (length (now levels)) (length (now workers)) ≡ 0 ⌝ }
+    requires { ⌜ firstThree (s .width) (countedBy s t) (length (now nodes)) (length (now levels)) (length (now workers)) ≡ 0 ⌝ }
     requires { ⌜ i < s .workers ⌝ }
-    ensures { λ u. ⌜ ranOf s u (areas (now (nodes .exit)) (now (levels .exit)) (now (workers .exit))) ≡ ranEntry 3 (ranOf s t (areas (now (nodes .entry)) (now (levels .entry)) (now (workers .entry)))) i ⌝ }
+    ensures { λ u. ⌜ ranOf s u (areas (now (nodes .exit)) (now (levels .exit)) (now (workers .exit))) ≡ ranEntry (s .width) (ranOf s t (areas (now (nodes .entry)) (now (levels .entry)) (now (workers .entry)))) i ⌝ }
 {
     if idle_at(workers, i) {
         idle_entry(t, answer_at(workers, i))
     } else {
         open_entry(s, t, i, nodes, levels, workers)
     }
-}
-
-// Whether a list of turns goes no further: its limit is used up, or a 6 was met.
-fn is_over(t: Tally) -> bool
-    ensures { λ r. ⌜ r ≡ overOf t ⌝ }
-{
-    if t.left == 0 {
-        return true;
-    }
-    if t.number == 0 { false } else { true }
 }
 
 // A byte as a number of 32 bits.
@@ -189,9 +183,9 @@ fn run_list(
     levels: &mut [u32],
     workers: &mut [u32],
 ) -> Tally
-    requires { ⌜ firstThree 3 s (length (now nodes)) (length (now levels)) (length (now workers)) ≡ 0 ⌝ }
+    requires { ⌜ firstThree (s .width) s (length (now nodes)) (length (now levels)) (length (now workers)) ≡ 0 ⌝ }
     requires { ⌜ every (λ i. ltb i (s .workers)) (now list) ≡ true ⌝ }
-    ensures { λ u. ⌜ ranOf s u (areas (now (nodes .exit)) (now (levels .exit)) (now (workers .exit))) ≡ ranList 3 (now (list .entry)) (run 0 (state s (areas (now (nodes .entry)) (now (levels .entry)) (now (workers .entry)))) limit 0 0) ⌝ }
+    ensures { λ u. ⌜ ranOf s u (areas (now (nodes .exit)) (now (levels .exit)) (now (workers .exit))) ≡ ranList (s .width) (now (list .entry)) (run 0 (state s (areas (now (nodes .entry)) (now (levels .entry)) (now (workers .entry)))) limit 0 0) ⌝ }
 {
     let mut t = Tally {
         number: 0,
@@ -203,12 +197,16 @@ fn run_list(
     };
     let mut k = 0;
     while k < list.len() {
-        if is_over(t) {
+        if t.left == 0 {
             return t;
         }
         let i = wide(list[k]);
         t = entry(s, t, i, nodes, levels, workers);
-        k += 1;
+        if t.number == 0 {
+            k += 1;
+        } else {
+            return t;
+        }
     }
     t
 }
@@ -220,15 +218,149 @@ fn less(n: u32, k: u32) -> u32
     if k <= n { n - k } else { 0 }
 }
 
+// The settings as words: a list or a turn carries them so, and its reply's settings are read from them once, at its end. A reply then gets them as they stand in
+// memory, by two wide copies; from registers they are written word by word, and the C caller that reads them whole waits for the words.
+fn words_of(s: Settings) -> [u32; 7]
+    ensures { λ r. ⌜ r ≡ wordsOf s ⌝ }
+{
+    [
+        s.workers,
+        s.limit,
+        s.nodes,
+        s.nodes_taken,
+        s.levels_taken,
+        s.width,
+        0,
+    ]
+}
+
+fn settings_of(c: &[u32; 7]) -> Settings
+    ensures { λ r. ⌜ r ≡ settingsOf (now (c .entry)) ⌝ }
+{
+    Settings {
+        workers: c[0],
+        limit: c[1],
+        nodes: c[2],
+        nodes_taken: c[3],
+        levels_taken: c[4],
+        width: c[5],
+    }
+}
+
+// Writes a word only where it differs.
+fn keep(c: &mut [u32; 7], k: usize, v: u32)
+    requires { ⌜ k < 7 ⌝ }
+    ensures { λ r. ⌜ now (c .exit) ≡ set (now (c .entry)) k v ⌝ }
+{
+    if c[k] == v {} else {
+        c[k] = v;
+    }
+}
+
+// Questions 1 to 3 of settings of width w.
+fn refused_of(s: Settings, w: u32, nodes: usize, levels: usize, workers: usize) -> u32
+    requires { ⌜ w ≡ s .width ⌝ }
+    ensures { λ r. ⌜ r ≡ firstThree (s .width) s nodes levels workers ⌝ }
+{
+    let mut t = s;
+    t.width = w;
+    t.refused(nodes, levels, workers)
+}
+
+// The same with the width as a literal, so that what it gives is computed when the code is made.
+fn refused_by_width(s: Settings, nodes: usize, levels: usize, workers: usize) -> u32
+    ensures { λ r. ⌜ r ≡ firstThree (s .width) s nodes levels workers ⌝ }
+{
+    let w = s.width;
+    match w {
+        2 => refused_of(s, 2, nodes, levels, workers),
+        3 => refused_of(s, 3, nodes, levels, workers),
+        4 => refused_of(s, 4, nodes, levels, workers),
+        _ => s.refused(nodes, levels, workers),
+    }
+}
+
+// Questions 1 to 3 of the settings in words: the number of the first no, or 0, which is left behind them too.
+fn asked(c: &mut [u32; 7], nodes: usize, levels: usize, workers: usize) -> u32
+    ensures { λ r. ⌜ (now (c .exit) ≡ set (now (c .entry)) 6 r) × (r ≡ firstThree (settingsOf (now (c .entry)) .width) (settingsOf (now (c .entry))) nodes levels workers) ⌝ }
+{
+    let s = settings_of(c);
+    let q = refused_by_width(s, nodes, levels, workers);
+    c[6] = q;
+    q
+}
+
+// The entries of a list, with the settings in words. The counts are written where they have changed.
+fn run_words(
+    c: &mut [u32; 7],
+    list: &[u8],
+    limit: u32,
+    nodes: &mut [u32],
+    levels: &mut [u32],
+    workers: &mut [u32],
+) -> Tally
+    requires { ⌜ firstThree (settingsOf (now c) .width) (settingsOf (now c)) (length (now nodes)) (length (now levels)) (length (now workers)) ≡ 0 ⌝ }
+    requires { ⌜ every (λ i. ltb i (settingsOf (now c) .workers)) (now list) ≡ true ⌝ }
+    requires { ⌜ length (now c) ≡ 7 ⌝ }
+    ensures { λ u. ⌜ (settingsOf (now (c .exit)) ≡ countedBy (settingsOf (now (c .entry))) u) × (ranOf (settingsOf (now (c .entry))) u (areas (now (nodes .exit)) (now (levels .exit)) (now (workers .exit))) ≡ ranList (settingsOf (now (c .entry)) .width) (now (list .entry)) (run 0 (state (settingsOf (now (c .entry))) (areas (now (nodes .entry)) (now (levels .entry)) (now (workers .entry)))) limit 0 0)) ⌝ }
+{
+    let s = settings_of(c);
+    let t = run_list(s, list, limit, nodes, levels, workers);
+    keep(c, 3, t.nodes_taken);
+    keep(c, 4, t.levels_taken);
+    t
+}
+
+// The tally of a list that is refused: it has no turns of its own.
+fn refused_tally(q: u32, limit: u32) -> Tally
+    ensures { λ u. ⌜ u ≡ tally q 0 0 limit 0 0 ⌝ }
+{
+    Tally {
+        number: q,
+        nodes_taken: 0,
+        levels_taken: 0,
+        left: limit,
+        done: 0,
+        failed: 0,
+    }
+}
+
+// A list of turns once questions 1 to 3 are asked.
+fn list_words(
+    c: &mut [u32; 7],
+    q: u32,
+    n: u32,
+    list: &[u8],
+    limit: u32,
+    nodes: &mut [u32],
+    levels: &mut [u32],
+    workers: &mut [u32],
+) -> Tally
+    requires { ⌜ q ≡ firstThree (settingsOf (now c) .width) (settingsOf (now c)) (length (now nodes)) (length (now levels)) (length (now workers)) ⌝ }
+    requires { ⌜ n ≡ settingsOf (now c) .workers ⌝ }
+    requires { ⌜ length (now c) ≡ 7 ⌝ }
+    ensures { λ u. ⌜ listed limit u (settingsOf (now (c .exit))) (areas (now (nodes .exit)) (now (levels .exit)) (now (workers .exit))) ≡ listReport (settingsOf (now (c .entry)) .width) (settingsOf (now (c .entry))) (now (list .entry)) limit (areas (now (nodes .entry)) (now (levels .entry)) (now (workers .entry))) ⌝ }
+{
+    if q == 0 {
+        if all_below(list, n) {
+            run_words(c, list, limit, nodes, levels, workers)
+        } else {
+            refused_tally(4, limit)
+        }
+    } else {
+        refused_tally(q, limit)
+    }
+}
+
 // What a list of turns gives at its end: the turns done are those that the limit has been counted down by.
 fn ended_list(s: Settings, t: Tally, limit: u32) -> Reply
-    ensures { λ r. ⌜ r ≡ reply (t .number) Answer.Nothing (limit - t .left) (countedBy s t) ⌝ }
+    ensures { λ r. ⌜ r ≡ reply (t .number) Answer.Nothing (limit - t .left) s ⌝ }
 {
     Reply {
         number: t.number,
         answer: Answer::Nothing,
         turns: less(limit, t.left),
-        settings: s.with_counts(t.nodes_taken, t.levels_taken),
+        settings: s,
     }
 }
 
@@ -251,19 +383,13 @@ pub fn turns(
     levels: &mut [u32],
     workers: &mut [u32],
 ) -> Listed
-    ensures { λ r. ⌜ report (result (r .reply) (areas (now (nodes .exit)) (now (levels .exit)) (now (workers .exit)))) (r .done) (r .failed) ≡ listReport 3 s (now (list .entry)) limit (areas (now (nodes .entry)) (now (levels .entry)) (now (workers .entry))) ⌝ }
+    ensures { λ r. ⌜ report (result (r .reply) (areas (now (nodes .exit)) (now (levels .exit)) (now (workers .exit)))) (r .done) (r .failed) ≡ listReport (s .width) s (now (list .entry)) limit (areas (now (nodes .entry)) (now (levels .entry)) (now (workers .entry))) ⌝ }
 {
-    let q = s.refused(nodes.len(), levels.len(), workers.len());
-    if q == 0 {
-        if all_below(list, s.workers) {
-            let t = run_list(s, list, limit, nodes, levels, workers);
-            reported(ended_list(s, t, limit), t.done, t.failed)
-        } else {
-            reported(refusal(4, s), 0, 0)
-        }
-    } else {
-        reported(refusal(q, s), 0, 0)
-    }
+    let mut c = words_of(s);
+    let q = asked(&mut c, nodes.len(), levels.len(), workers.len());
+    let t = list_words(&mut c, q, s.workers, list, limit, nodes, levels, workers);
+    let n = settings_of(&c);
+    reported(ended_list(n, t, limit), t.done, t.failed)
 }
 
 // The number of a turn that was done, as its worker's head tells it: 9 where the call has ended "full".
@@ -277,40 +403,99 @@ fn number_told(h: Head) -> u32
     }
 }
 
-// The reply of a turn, from the tally of a list of it alone and its worker's head after it. Where the list has done no turn, the worker is idle.
-fn one_reply(s: Settings, t: Tally, h: Head) -> Reply
-    ensures { λ r. ⌜ r ≡ oneReply s t h ⌝ }
+fn tell(number: u32, a: Answer) -> Told
+    ensures { λ d. ⌜ d ≡ told number a ⌝ }
+{
+    Told {
+        number: number,
+        answer: a,
+    }
+}
+
+// What a turn tells, from the tally of a list of it alone and its worker's head after it. Where the list has done no turn, the worker is idle.
+fn one_told(t: Tally, h: Head) -> Told
+    ensures { λ d. ⌜ d ≡ toldOne t h ⌝ }
 {
     if t.number == 6 {
-        refusal(6, s)
+        tell(6, Answer::Nothing)
     } else {
         if t.left == 0 {
-            replied(
-                number_told(h),
-                answer_in(h),
-                s.with_counts(t.nodes_taken, t.levels_taken),
-            )
+            tell(number_told(h), answer_in(h))
         } else {
-            refusal(8, s)
+            tell(8, Answer::Nothing)
         }
     }
 }
 
 // A turn of a worker below workers, as a list of one entry.
 fn one_turn(
-    s: Settings,
+    c: &mut [u32; 7],
     i: u32,
     nodes: &mut [u32],
     levels: &mut [u32],
     workers: &mut [u32],
-) -> Reply
-    requires { ⌜ firstFour 3 s i (length (now nodes)) (length (now levels)) (length (now workers)) ≡ 0 ⌝ }
-    ensures { λ r. ⌜ result r (areas (now (nodes .exit)) (now (levels .exit)) (now (workers .exit))) ≡ turn 3 s i (areas (now (nodes .entry)) (now (levels .entry)) (now (workers .entry))) ⌝ }
+) -> Told
+    requires { ⌜ firstFour (settingsOf (now c) .width) (settingsOf (now c)) i (length (now nodes)) (length (now levels)) (length (now workers)) ≡ 0 ⌝ }
+    requires { ⌜ length (now c) ≡ 7 ⌝ }
+    ensures { λ d. ⌜ result (replyOf d (settingsOf (now (c .exit)))) (areas (now (nodes .exit)) (now (levels .exit)) (now (workers .exit))) ≡ turn (settingsOf (now (c .entry)) .width) (settingsOf (now (c .entry))) i (areas (now (nodes .entry)) (now (levels .entry)) (now (workers .entry))) ⌝ }
 {
     let l = [i as u8];
-    let t = run_list(s, &l, 1, nodes, levels, workers);
+    let t = run_words(c, &l, 1, nodes, levels, workers);
     let h = Head::load(workers, i);
-    one_reply(s, t, h)
+    one_told(t, h)
+}
+
+// A turn of an idle worker is refused, by the number of its last answer.
+fn idle_number(answer: u32) -> u32
+    ensures { λ r. ⌜ r ≡ idleNumber answer ⌝ }
+{
+    if idle_fits(answer) { 8 } else { 6 }
+}
+
+// A turn of a worker below workers. An idle worker is answered at once, without a list.
+fn turn_below(
+    c: &mut [u32; 7],
+    i: u32,
+    nodes: &mut [u32],
+    levels: &mut [u32],
+    workers: &mut [u32],
+) -> Told
+    requires { ⌜ firstFour (settingsOf (now c) .width) (settingsOf (now c)) i (length (now nodes)) (length (now levels)) (length (now workers)) ≡ 0 ⌝ }
+    requires { ⌜ length (now c) ≡ 7 ⌝ }
+    ensures { λ d. ⌜ result (replyOf d (settingsOf (now (c .exit)))) (areas (now (nodes .exit)) (now (levels .exit)) (now (workers .exit))) ≡ turn (settingsOf (now (c .entry)) .width) (settingsOf (now (c .entry))) i (areas (now (nodes .entry)) (now (levels .entry)) (now (workers .entry))) ⌝ }
+{
+    if idle_at(workers, i) {
+        tell(idle_number(answer_at(workers, i)), Answer::Nothing)
+    } else {
+        one_turn(c, i, nodes, levels, workers)
+    }
+}
+
+// Question 4, once questions 1 to 3 are asked.
+fn refused_fourth(q: u32, i: u32, n: u32) -> u32
+    ensures { λ r. ⌜ r ≡ pick (eqb q 0) (pick (ltb i n) 0 4) q ⌝ }
+{
+    if q == 0 { if i < n { 0 } else { 4 } } else { q }
+}
+
+// A turn once questions 1 to 4 are asked.
+fn turn_words(
+    c: &mut [u32; 7],
+    q: u32,
+    i: u32,
+    nodes: &mut [u32],
+    levels: &mut [u32],
+    workers: &mut [u32],
+) -> Told
+    requires { ⌜ q ≡ firstFour (settingsOf (now c) .width) (settingsOf (now c)) i (length (now nodes)) (length (now levels)) (length (now workers)) ⌝ }
+    requires { ⌜ length (now c) ≡ 7 ⌝ }
+    ensures { λ d. ⌜ result (replyOf d (settingsOf (now (c .exit)))) (areas (now (nodes .exit)) (now (levels .exit)) (now (workers .exit))) ≡ turn (settingsOf (now (c .entry)) .width) (settingsOf (now (c .entry))) i (areas (now (nodes .entry)) (now (levels .entry)) (now (workers .entry))) ⌝ }
+{
+    if q == 0 {
+        turn_below(c, i, nodes, levels, workers)
+    } else {
+        tell(q, Answer::Nothing)
+    }
 }
 
 // One turn of worker i. It is a list of one entry, so that a library has the code of a turn once, inside the list's loop.
@@ -321,12 +506,12 @@ pub fn turn(
     levels: &mut [u32],
     workers: &mut [u32],
 ) -> Reply
-    ensures { λ r. ⌜ result r (areas (now (nodes .exit)) (now (levels .exit)) (now (workers .exit))) ≡ turn 3 s i (areas (now (nodes .entry)) (now (levels .entry)) (now (workers .entry))) ⌝ }
+    ensures { λ r. ⌜ result r (areas (now (nodes .exit)) (now (levels .exit)) (now (workers .exit))) ≡ turn (s .width) s i (areas (now (nodes .entry)) (now (levels .entry)) (now (workers .entry))) ⌝ }
 {
-    let q = refused_worker(s, i, nodes, levels, workers);
-    if q == 0 {
-        one_turn(s, i, nodes, levels, workers)
-    } else {
-        refusal(q, s)
-    }
+    let mut c = words_of(s);
+    let q = asked(&mut c, nodes.len(), levels.len(), workers.len());
+    let f = refused_fourth(q, i, s.workers);
+    let t = turn_words(&mut c, f, i, nodes, levels, workers);
+    let a = t.answer;
+    replied(t.number, a, settings_of(&c))
 }

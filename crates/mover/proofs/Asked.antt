@@ -3,7 +3,7 @@
 use mathlib.Core.Path.{_≡_, ap, sym, _∙_}
 use mathlib.Core.Bool.{Bool, true, false}
 use mathlib.Core.List.{List, [], _∷_}
-use Prim.Native.Nat.{ℕ, suc, _+_, _≤_, _<_}
+use Prim.Native.Nat.{ℕ, suc, _+_, _-_, _≤_, _<_}
 use lib.Dec.{leb, eqb}
 use lib.ListN.{length}
 use borrow.Author.Tests.{ltb-true, leb-true, ne-eqb, lt-ltb, le-ltb}
@@ -12,7 +12,7 @@ use Rattle.words.specs.Choice.{pick, both}
 use Rattle.words.specs.Digits.{depths}
 use Rattle.words.proofs.Choice.{via, both-left, both-right, pick-both, pick-true}
 use Rattle.settings.specs.declared.Settings.{Settings}
-use Rattle.settings.specs.Sizes.{maxMoves}
+use Rattle.settings.specs.Sizes.{maxLimit, maxNodes, maxMoves, mostLevels}
 use Rattle.settings.specs.Cut.{Sized}
 use Rattle.areas.specs.declared.Cell.{Cell}
 use Rattle.areas.specs.Memory.{Memory, memory, isNode, pixelAt, nextAt, entryCell, cellAt, nodeTaken, refTaken}
@@ -38,11 +38,11 @@ module _ (s : Settings) (v : Inner) (word : ℕ) where
   room-level e = simp e
 
   -- where there is room, the nodes remembered after the word stay within the bound
-  pub room-most : wordAsked s v word ≡ true → v .count ≤ 8 → Sized s → wordInner v word .count ≤ 8
+  pub room-most : wordAsked s v word ≡ true → v .count ≤ maxLimit → Sized s → wordInner v word .count ≤ maxLimit
   unfolding wordAsked roomIn wordInner rememberIn
   room-most e h z =
-      let k : s .limit ≤ 8 = z .ranges .limit .high in
-      pick-both (λ (i : Inner). i .count ≤ 8) (isNode word)
+      let k : s .limit ≤ maxLimit = z .ranges .limit .high in
+      pick-both (λ (i : Inner). i .count ≤ maxLimit) (isNode word)
       (λ q. let t : v .count + 1 ≤ s .limit = leb-true _ _ (sym (pick-true (isNode word) _ true q) ∙ both-right _ _ e) in omega arith)
       (λ q. h)
 
@@ -74,37 +74,37 @@ module _ (v : Mover) (nodes : List ℕ) where
   home-way w levels a b = simp (a, b)
 
 -- what a yes says of numbers
-pub node-below : (s : Settings) (i : ℕ) → nodeTaken s i ≡ true → Sized s → i ≤ 4096
+pub node-below : (s : Settings) (i : ℕ) → nodeTaken s i ≡ true → Sized s → i ≤ maxNodes
 unfolding nodeTaken
 node-below s i e z =
     let b : i < s .«nodes_taken» = ltb-true _ _ e in
     let t : s .«nodes_taken» ≤ s .nodes = z .nodes in
-    let k : s .nodes ≤ 4096 = z .ranges .nodes .high in
+    let k : s .nodes ≤ maxNodes = z .ranges .nodes .high in
     omega arith
 
 module _ (s : Settings) (h : Head) (n : ℕ) {r : Bool} where
-  pub nexts-level : r ≡ setNexts s h n → r ≡ true → Sized s → h .level ≤ 28689
+  pub nexts-level : r ≡ setNexts s h n → r ≡ true → Sized s → h .level ≤ mostLevels
   unfolding setNexts
   nexts-level a e z = level-most s (h .level) (both-right (nodeTaken s n) _ (via a e)) z
 
-  pub puts-level : (w : ℕ) (m : Memory) → r ≡ setEntry w s h n m → r ≡ true → Sized s → h .level ≤ 28689
+  pub puts-level : (w : ℕ) (m : Memory) → r ≡ setEntry w s h n m → r ≡ true → Sized s → h .level ≤ mostLevels
   unfolding setEntry picksIn
   puts-level w m a e z = level-most s (h .level) (both-left _ _ (both-left _ (pixelFits s n (m .nodes)) (via a e))) z
 
-  pub puts-last : (w : ℕ) (m : Memory) → r ≡ setEntry w s h n m → r ≡ true → Sized s → n ≤ 4096
+  pub puts-last : (w : ℕ) (m : Memory) → r ≡ setEntry w s h n m → r ≡ true → Sized s → n ≤ maxNodes
   unfolding setEntry pixelFits
   puts-last w m a e z = node-below s n (both-left _ _ (both-right (picksIn w s (h .level) (m .levels)) _ (via a e))) z
 
-  pub appends-level : r ≡ standsSetting s h n → r ≡ true → Sized s → h .level ≤ 28689
+  pub appends-level : r ≡ standsSetting s h n → r ≡ true → Sized s → h .level ≤ mostLevels
   unfolding standsSetting standsAt
   appends-level a e z = level-most s (h .level) (both-left _ _ (both-left _ (nodeTaken s n) (via a e))) z
 
-  pub appends-last : r ≡ standsSetting s h n → r ≡ true → Sized s → n ≤ 4096
+  pub appends-last : r ≡ standsSetting s h n → r ≡ true → Sized s → n ≤ maxNodes
   unfolding standsSetting
   appends-last a e z = node-below s n (both-right (standsAt s h) _ (via a e)) z
 
 module _ (w : ℕ) (s : Settings) (v : Mover) {r : Bool} where
-  pub ends-child : (m : Memory) → r ≡ moveEndsCut w s v m → r ≡ true → Sized s → v .inner .child ≤ 28689
+  pub ends-child : (m : Memory) → r ≡ moveEndsCut w s v m → r ≡ true → Sized s → v .inner .child ≤ mostLevels
   unfolding moveEndsCut
   ends-child m a e z = level-most s (v .inner .child) (both-right (picksHomeCut w s v m) _ (via a e)) z
 
@@ -131,14 +131,14 @@ unfolding homeCut homeCell
 home-is w v a os r m = rw (key-is v a os (m .nodes) r, r .inner-is)
 
 -- whether a Move more has room
-module _ (v : Mover) (a : Move) (os : List Move) (o : Around v a os) where
-  pub left-true : v .moves < 7 → moveLeft 3 (a ∷ os) ≡ true
-  unfolding moveLeft maxMoves depths
-  left-true h = let n : v .moves ≡ suc (length os) = o .count in lt-ltb (suc (length os)) 7 (omega arith)
+module _ (w : ℕ) {most : ℕ} (m : most ≡ depths w - 1) (v : Mover) (a : Move) (os : List Move) (o : Around v a os) where
+  pub left-true : v .moves < most → moveLeft w (a ∷ os) ≡ true
+  unfolding moveLeft maxMoves
+  left-true h = let n : v .moves ≡ suc (length os) = o .count in lt-ltb (suc (length os)) (depths w - 1) (omega arith)
 
-  pub left-false : 7 ≤ v .moves → moveLeft 3 (a ∷ os) ≡ false
-  unfolding moveLeft maxMoves depths
-  left-false h = let n : v .moves ≡ suc (length os) = o .count in le-ltb (suc (length os)) 7 (omega arith)
+  pub left-false : most ≤ v .moves → moveLeft w (a ∷ os) ≡ false
+  unfolding moveLeft maxMoves
+  left-false h = let n : v .moves ≡ suc (length os) = o .count in le-ltb (suc (length os)) (depths w - 1) (omega arith)
 
 module _ (w : ℕ) (s : Settings) (v : Mover) (a : Move) (os : List Move) (o : Around v a os) where
   pub picks-home-is : (m : Memory) → picksHomeCut w s v m ≡ picksHome w s a os m

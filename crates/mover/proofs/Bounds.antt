@@ -6,6 +6,7 @@ use Prim.Native.Nat.{ℕ, _+_, _≤_}
 use native.Mathlib.Omega.{arith}
 use Rattle.words.specs.Choice.{pick, both}
 use Rattle.words.proofs.Choice.{pick-both, both-right, via}
+use Rattle.settings.specs.Sizes.{maxLimit}
 use Rattle.settings.specs.Cut.{Sized}
 use Rattle.settings.specs.declared.Settings.{Settings}
 use Rattle.record.specs.declared.Head.{Head}
@@ -24,19 +25,19 @@ pub counts-stay : (v : Mover) (s : Settings) (h : Head) (i : Inner) {r : Moved} 
 counts-stay v s h i a = as-many (ap (λ (x : Moved). x .mover .moves) a)
 
 -- the nodes remembered stay within the bound
-pub most-refused : (v : Mover) (s : Settings) {r : Moved} → r ≡ refuses v s → v .inner .count ≤ 8 → r .mover .inner .count ≤ 8
+pub most-refused : (v : Mover) (s : Settings) {r : Moved} → r ≡ refuses v s → v .inner .count ≤ maxLimit → r .mover .inner .count ≤ maxLimit
 most-refused v s a h = rw a h
 
-pub most-stay : (v : Mover) (s : Settings) (h : Head) {r : Moved} → r ≡ stays v s h (v .inner) → v .inner .count ≤ 8 → r .mover .inner .count ≤ 8
+pub most-stay : (v : Mover) (s : Settings) (h : Head) {r : Moved} → r ≡ stays v s h (v .inner) → v .inner .count ≤ maxLimit → r .mover .inner .count ≤ maxLimit
 most-stay v s h a b = rw a b
 
 pub most-word :
     (v : Mover) (s : Settings) (word : ℕ) (x : Bool) {q : Bool} {r : Moved}
     → r ≡ stays v s (wordHead (v .head) (v .inner) word) (wordInner (v .inner) word) → q ≡ both x (wordAsked s (v .inner) word) → q ≡ true
-    → v .inner .count ≤ 8 → Sized s → r .mover .inner .count ≤ 8
+    → v .inner .count ≤ maxLimit → Sized s → r .mover .inner .count ≤ maxLimit
 most-word v s word x a b e h z = rw a (room-most s (v .inner) word (both-right x _ (via b e)) h z)
 
-pub most-end : (v : Mover) (s : Settings) {r : Moved} → r ≡ ends v s → v .inner .count ≤ 8 → r .mover .inner .count ≤ 8
+pub most-end : (v : Mover) (s : Settings) {r : Moved} → r ≡ ends v s → v .inner .count ≤ maxLimit → r .mover .inner .count ≤ maxLimit
 most-end v s a h = rw a h
 
 -- one Move less
@@ -46,7 +47,7 @@ counts-end v v′ e = one-less e
 -- both bounds of what is made of a word that an exchange met, or of R's next where no Move more has room
 pub record Bounded (v : Mover) (r : Moved) : Type 0 where
   pub counts : Counts v (r .mover)
-  pub most : v .inner .count ≤ 8 → r .mover .inner .count ≤ 8
+  pub most : v .inner .count ≤ maxLimit → r .mover .inner .count ≤ maxLimit
 
 module _ (v : Mover) (s : Settings) where
   pub bounded-refused : Bounded v (refuses v s)

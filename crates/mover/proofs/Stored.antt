@@ -50,50 +50,50 @@ module _ (v : Inner) (p : ℕ) (l : List ℕ) where
   unfolding innerOn
   on-way a b = simp (a, b)
 
-module _ (w : ℕ) (l : List ℕ) (i : ℕ) where
-  pub outer-none : (n : ℕ) → leb n 1 ≡ true → 0 ≡ outerAt w l i n
+module _ (l : List ℕ) (i : ℕ) where
+  pub outer-none : (n : ℕ) → leb n 1 ≡ true → 0 ≡ outerAt l i n
   unfolding outerAt pick
   outer-none n e = simp e
 
-  pub outer-last : (n : ℕ) {r p : ℕ} → r ≡ lastAt l p → p ≡ movePlace w i (n - 2) → leb n 1 ≡ false → r ≡ outerAt w l i n
+  pub outer-last : (n : ℕ) {r p : ℕ} → r ≡ lastAt l p → p ≡ movePlace i (n - 2) → leb n 1 ≡ false → r ≡ outerAt l i n
   unfolding outerAt pick
   outer-last n a b e = simp (e, a, b)
 
   pub load-way :
       (h : Head) {n j p o : ℕ} {v : Inner}
-      → o ≡ outerAt w l i n → v ≡ innerAt l p → p ≡ movePlace w i j → j ≡ n - 1 → n ≡ movesAt w l i
-      → record { head = h; moves = n; inner = v; outer = o } ≡ moverAt w l i h
+      → o ≡ outerAt l i n → v ≡ innerAt l p → p ≡ movePlace i j → j ≡ n - 1 → n ≡ movesAt l i
+      → record { head = h; moves = n; inner = v; outer = o } ≡ moverAt l i h
   unfolding moverAt
   load-way h a b c d e = simp (a, b, c, d, e)
 
   pub head-way :
       (h : Head) (n : ℕ) {l₁ l₂ l₃ l₄ : List ℕ} {p k : ℕ}
       → l₄ ≡ set l₃ (p + 9) n → l₃ ≡ set l₂ (p + 6) (h .«held_level») → l₂ ≡ sets l₁ (p + 2) (h .level ∷ h .node ∷ h .count ∷ []) → l₁ ≡ set l p k
-      → p ≡ workerPlace w i → k ≡ kindNo (h .kind) → l₄ ≡ headTo w h n i l
+      → p ≡ workerPlace i → k ≡ kindNo (h .kind) → l₄ ≡ headTo h n i l
   unfolding headTo
   head-way h n a b c d e f = simp (a, b, c, d, e, f)
 
   module _ (before : ℕ) (v : Mover) where
     pub inner-changed :
         {l′ : List ℕ} {p j : ℕ}
-        → l′ ≡ innerOn (v .inner) p l → p ≡ movePlace w i j → j ≡ v .moves - 1 → eqb (v .moves) before ≡ true → l′ ≡ innerTo w before v i l
+        → l′ ≡ innerOn (v .inner) p l → p ≡ movePlace i j → j ≡ v .moves - 1 → eqb (v .moves) before ≡ true → l′ ≡ innerTo before v i l
     unfolding innerTo pick
     inner-changed a b c e = simp (e, a, b, c)
 
     pub inner-begun :
         {l′ : List ℕ} {x : Move} {j : ℕ}
-        → l′ ≡ moveTo x (movePlace w i j) l → x ≡ newMove (v .inner .home) (v .inner .child) → j ≡ v .moves - 1
-        → eqb (v .moves) before ≡ false → ltb before (v .moves) ≡ true → l′ ≡ innerTo w before v i l
+        → l′ ≡ moveTo x (movePlace i j) l → x ≡ newMove (v .inner .home) (v .inner .child) → j ≡ v .moves - 1
+        → eqb (v .moves) before ≡ false → ltb before (v .moves) ≡ true → l′ ≡ innerTo before v i l
     unfolding innerTo pick
     inner-begun a b c e f = simp (e, f, a, b, c)
 
-    pub inner-ended : eqb (v .moves) before ≡ false → ltb before (v .moves) ≡ false → l ≡ innerTo w before v i l
+    pub inner-ended : eqb (v .moves) before ≡ false → ltb before (v .moves) ≡ false → l ≡ innerTo before v i l
     unfolding innerTo pick
     inner-ended e f = simp (e, f)
 
   pub store-way :
       (v : Mover) {l₁ l₂ : List ℕ} {n : ℕ}
-      → l₂ ≡ innerTo w n v i l₁ → l₁ ≡ headTo w (v .head) (v .moves) i l → n ≡ movesAt w l i → l₂ ≡ moverTo w v i l
+      → l₂ ≡ innerTo n v i l₁ → l₁ ≡ headTo (v .head) (v .moves) i l → n ≡ movesAt l i → l₂ ≡ moverTo v i l
   unfolding moverTo
   store-way v a b c = simp (a, b, c)
 
@@ -107,32 +107,32 @@ unfolding innerAt moveFrom
 inner-from l p h = rw (last-from l p h) refl
 
 module _ (w : ℕ) (l : List ℕ) (i : ℕ) where
-  first-inner : (n : ℕ) → 1 ≤ n → moveAt w l i (n - 1) ∷ firstMoves w l i (n - 1) ≡ firstMoves w l i n
+  first-inner : (n : ℕ) → 1 ≤ n → moveAt l i (n - 1) ∷ firstMoves l i (n - 1) ≡ firstMoves l i n
   unfolding firstMoves
   first-inner zero h = absurd (omega arith)
   first-inner (suc n) h = let e : suc n - 1 ≡ n = omega arith in rw e
 
-  outer-first : (n : ℕ) → (2 ≤ n → moveAt w l i (n - 2) .count ≤ maxLimit) → outerAt w l i n ≡ outerNode (firstMoves w l i (n - 1))
+  outer-first : (n : ℕ) → (2 ≤ n → moveAt l i (n - 2) .count ≤ maxLimit) → outerAt l i n ≡ outerNode (firstMoves l i (n - 1))
   unfolding outerAt outerNode firstMoves moveAt pick
   outer-first zero h = refl
   outer-first (suc zero) h = refl
   outer-first (suc (suc n)) h =
       let e : suc (suc n) - 1 ≡ suc n = omega arith in
       let f : suc (suc n) - 2 ≡ n = omega arith in
-      let g : moveFrom l (movePlace w i n) .count ≤ maxLimit = rw f at (h (omega arith)) in
-      simp (e, f, lt-leb (suc (suc n)) 1 (omega arith), last-from l (movePlace w i n) g)
+      let g : moveFrom l (movePlace i n) .count ≤ maxLimit = rw f at (h (omega arith)) in
+      simp (e, f, lt-leb (suc (suc n)) 1 (omega arith), last-from l (movePlace i n) g)
 
-  pub loaded-moves : 1 ≤ movesAt w l i → moveAt w l i (movesAt w l i - 1) ∷ firstMoves w l i (movesAt w l i - 1) ≡ firstMoves w l i (movesAt w l i)
-  loaded-moves o = first-inner (movesAt w l i) o
+  pub loaded-moves : 1 ≤ movesAt l i → moveAt l i (movesAt l i - 1) ∷ firstMoves l i (movesAt l i - 1) ≡ firstMoves l i (movesAt l i)
+  loaded-moves o = first-inner (movesAt l i) o
 
   pub loaded-around :
       (h : Head)
-      → 1 ≤ movesAt w l i → moveAt w l i (movesAt w l i - 1) .count ≤ maxLimit → (2 ≤ movesAt w l i → moveAt w l i (movesAt w l i - 2) .count ≤ maxLimit)
-      → Around (moverAt w l i h) (moveAt w l i (movesAt w l i - 1)) (firstMoves w l i (movesAt w l i - 1))
+      → 1 ≤ movesAt l i → moveAt l i (movesAt l i - 1) .count ≤ maxLimit → (2 ≤ movesAt l i → moveAt l i (movesAt l i - 2) .count ≤ maxLimit)
+      → Around (moverAt l i h) (moveAt l i (movesAt l i - 1)) (firstMoves l i (movesAt l i - 1))
   unfolding moverAt moveAt
   loaded-around h o c d =
-      let e : length (firstMoves w l i (movesAt w l i - 1)) ≡ movesAt w l i - 1 = length-first w l i (movesAt w l i - 1) in
-      record { inner-is = inner-from l (movePlace w i (movesAt w l i - 1)) c; count = omega arith; outer-is = outer-first (movesAt w l i) d }
+      let e : length (firstMoves l i (movesAt l i - 1)) ≡ movesAt l i - 1 = length-first l i (movesAt l i - 1) in
+      record { inner-is = inner-from l (movePlace i (movesAt l i - 1)) c; count = omega arith; outer-is = outer-first (movesAt l i) d }
 
 -- the head: what a moving turn does not change stands in the words
 kept-words :
@@ -163,10 +163,10 @@ kept-words l p k x g r c y q a z n e₁ e₅ e₇ e₈ =
     in
     sym (s₁ ∙ (s₅ ∙ (s₇ ∙ s₈)))
 
-head-to : (w : ℕ) (h : Head) (n i : ℕ) (l : List ℕ) → Keeps h (headAt w l i) → headTo w h n i l ≡ storeHead w h n i l
+head-to : (h : Head) (n i : ℕ) (l : List ℕ) → Keeps h (headAt l i) → headTo h n i l ≡ storeHead h n i l
 unfolding headTo storeHead headList headAt headFrom
-head-to w h n i l k =
-    let p : ℕ = workerPlace w i in
+head-to h n i l k =
+    let p : ℕ = workerPlace i in
     let at : (j q : ℕ) → p + j ≡ q → j < 9 → getD (cells l p 9) j 0 ≡ getD l q 0 = λ j q e g. getD-cells l p 9 j g ∙ ap (λ (x : ℕ). getD l x 0) e in
     let e₂ : p + 2 ≡ suc (suc p) = omega arith in
     let e₆ : p + 6 ≡ suc (suc (suc (suc (suc (suc p))))) = omega arith in
@@ -212,78 +212,78 @@ inner-to u p l h =
 module _ (w i : ℕ) where
   first-stand :
       (l l′ : List ℕ) (n : ℕ)
-      → ((k : ℕ) → workerPlace w i + headWords ≤ k → k < workerPlace w i + headWords + moveWords * n → getD l′ k 0 ≡ getD l k 0)
-      → firstMoves w l′ i n ≡ firstMoves w l i n
+      → ((k : ℕ) → workerPlace i + headWords ≤ k → k < workerPlace i + headWords + moveWords * n → getD l′ k 0 ≡ getD l k 0)
+      → firstMoves l′ i n ≡ firstMoves l i n
   unfolding firstMoves moveAt movePlace
   first-stand l l′ zero h = refl
   first-stand l l′ (suc n) h =
-      let p : ℕ = workerPlace w i + headWords + moveWords * n in
+      let p : ℕ = workerPlace i + headWords + moveWords * n in
       let a : moveFrom l′ p ≡ moveFrom l p = move-same l′ l p (λ k g. h (p + k) (omega arith) (omega arith)) in
-      let b : firstMoves w l′ i n ≡ firstMoves w l i n = first-stand l l′ n (λ k f g. h k f (omega arith)) in
+      let b : firstMoves l′ i n ≡ firstMoves l i n = first-stand l l′ n (λ k f g. h k f (omega arith)) in
       rw (a, b)
 
   moves-stand :
       (l l′ : List ℕ) (n : ℕ)
-      → ((k : ℕ) → workerPlace w i + headWords ≤ k → k < workerPlace w i + headWords + moveWords * n → getD l′ k 0 ≡ getD l k 0)
-      → storeMoves w (firstMoves w l i n) i l′ ≡ l′
-  moves-stand l l′ n h = rw (← first-stand l l′ n h) (moves-kept w i l′ n)
+      → ((k : ℕ) → workerPlace i + headWords ≤ k → k < workerPlace i + headWords + moveWords * n → getD l′ k 0 ≡ getD l k 0)
+      → storeMoves (firstMoves l i n) i l′ ≡ l′
+  moves-stand l l′ n h = rw (← first-stand l l′ n h) (moves-kept i l′ n)
 
   -- the head alone
-  store-first : (h : Head) (l : List ℕ) (n : ℕ) → store w (record′ h (firstMoves w l i n)) i l ≡ storeHead w h n i l
+  store-first : (h : Head) (l : List ℕ) (n : ℕ) → store (record′ h (firstMoves l i n)) i l ≡ storeHead h n i l
   unfolding store
   store-first h l n =
-      let e : length (firstMoves w l i n) ≡ n = length-first w l i n in
-      rw e (moves-stand l (storeHead w h n i l) n (λ k f g. head-outside w h n i l k (after (omega arith))))
+      let e : length (firstMoves l i n) ≡ n = length-first l i n in
+      rw e (moves-stand l (storeHead h n i l) n (λ k f g. head-outside h n i l k (after (omega arith))))
 
   -- the head and one Move
   store-one :
       (h : Head) (v : Move) (l : List ℕ) (n : ℕ)
-      → store w (record′ h (v ∷ firstMoves w l i n)) i l ≡ moveTo v (movePlace w i n) (storeHead w h (suc n) i l)
+      → store (record′ h (v ∷ firstMoves l i n)) i l ≡ moveTo v (movePlace i n) (storeHead h (suc n) i l)
   unfolding store storeMoves movePlace
   store-one h v l n =
-      let e : length (firstMoves w l i n) ≡ n = length-first w l i n in
-      let p : ℕ = workerPlace w i + headWords + moveWords * n in
-      ap (λ (j : ℕ). storeMoves w (firstMoves w l i n) i (moveTo v (workerPlace w i + headWords + moveWords * j) (storeHead w h (suc j) i l))) e
-      ∙ (moves-stand l (moveTo v p (storeHead w h (suc n) i l)) n
-      (λ k f g. move-before v p (storeHead w h (suc n) i l) k g ∙ head-outside w h (suc n) i l k (after (omega arith))))
+      let e : length (firstMoves l i n) ≡ n = length-first l i n in
+      let p : ℕ = workerPlace i + headWords + moveWords * n in
+      ap (λ (j : ℕ). storeMoves (firstMoves l i n) i (moveTo v (workerPlace i + headWords + moveWords * j) (storeHead h (suc j) i l))) e
+      ∙ (moves-stand l (moveTo v p (storeHead h (suc n) i l)) n
+      (λ k f g. move-before v p (storeHead h (suc n) i l) k g ∙ head-outside h (suc n) i l k (after (omega arith))))
 
   -- the head, and of the Move in the words what has changed
-  move-stands : (h : Head) (l : List ℕ) (n : ℕ) → moveFrom (storeHead w h (suc n) i l) (movePlace w i n) ≡ moveFrom l (movePlace w i n)
+  move-stands : (h : Head) (l : List ℕ) (n : ℕ) → moveFrom (storeHead h (suc n) i l) (movePlace i n) ≡ moveFrom l (movePlace i n)
   unfolding movePlace
   move-stands h l n =
-      move-same _ l (workerPlace w i + headWords + moveWords * n) (λ k g. head-outside w h (suc n) i l _ (after (omega arith)))
+      move-same _ l (workerPlace i + headWords + moveWords * n) (λ k g. head-outside h (suc n) i l _ (after (omega arith)))
 
   store-changed :
       (h : Head) (u : Inner) (l : List ℕ) (n : ℕ)
-      → u .count ≤ maxLimit → store w (record′ h (moveAfter u (moveAt w l i n) ∷ firstMoves w l i n)) i l ≡ innerOn u (movePlace w i n) (storeHead w h (suc n) i l)
+      → u .count ≤ maxLimit → store (record′ h (moveAfter u (moveAt l i n) ∷ firstMoves l i n)) i l ≡ innerOn u (movePlace i n) (storeHead h (suc n) i l)
   unfolding moveAt
   store-changed h u l n c =
-      let p : ℕ = movePlace w i n in
-      let l₁ : List ℕ = storeHead w h (suc n) i l in
+      let p : ℕ = movePlace i n in
+      let l₁ : List ℕ = storeHead h (suc n) i l in
       store-one h (moveAfter u (moveFrom l p)) l n
       ∙ (ap (λ (x : Move). moveTo (moveAfter u x) p l₁) (sym (move-stands h l n)) ∙ inner-to u p l₁ c)
 
 module _ (w : ℕ) (l : List ℕ) (i : ℕ) (v : Mover) where
   -- storing the mover is storing the whole record, the Moves around being those in the words
   pub store-is :
-      Keeps (v .head) (headAt w l i) → v .inner .count ≤ maxLimit → 1 ≤ movesAt w l i → Counts (moverAt w l i (headAt w l i)) v
-      → moverTo w v i l
-      ≡ store w (record′ (v .head) (listAfter (moverAt w l i (headAt w l i)) v (moveAt w l i (movesAt w l i - 1)) (firstMoves w l i (movesAt w l i - 1)))) i l
+      Keeps (v .head) (headAt l i) → v .inner .count ≤ maxLimit → 1 ≤ movesAt l i → Counts (moverAt l i (headAt l i)) v
+      → moverTo v i l
+      ≡ store (record′ (v .head) (listAfter (moverAt l i (headAt l i)) v (moveAt l i (movesAt l i - 1)) (firstMoves l i (movesAt l i - 1)))) i l
   unfolding moverAt moverTo innerTo listAfter pick
   store-is k c o (as-many e) =
-      let n : ℕ = movesAt w l i - 1 in
+      let n : ℕ = movesAt l i - 1 in
       let f : v .moves ≡ suc n = omega arith in
       let g : suc n - 1 ≡ n = omega arith in
-      let q : suc n ≡ movesAt w l i = omega arith in
-      simp (f, g, eq-eqb (suc n) (movesAt w l i) q, head-to w (v .head) (suc n) i l k, store-changed w i (v .head) (v .inner) l n c)
+      let q : suc n ≡ movesAt l i = omega arith in
+      simp (f, g, eq-eqb (suc n) (movesAt l i) q, head-to (v .head) (suc n) i l k, store-changed w i (v .head) (v .inner) l n c)
   store-is k c o (one-more e) =
-      let n : ℕ = movesAt w l i in
+      let n : ℕ = movesAt l i in
       let f : v .moves ≡ suc n = omega arith in
       let g : suc n - 1 ≡ n = omega arith in
       simp
-      (f, g, ne-eqb (suc n) n (λ q. omega arith), lt-ltb n (suc n) (omega arith), first-inner w l i n o, head-to w (v .head) (suc n) i l k, store-one w i (v .head) (newMove (v .inner .home) (v .inner .child)) l n)
+      (f, g, ne-eqb (suc n) n (λ q. omega arith), lt-ltb n (suc n) (omega arith), first-inner w l i n o, head-to (v .head) (suc n) i l k, store-one w i (v .head) (newMove (v .inner .home) (v .inner .child)) l n)
   store-is k c o (one-less e) =
-      let n : ℕ = movesAt w l i - 1 in
+      let n : ℕ = movesAt l i - 1 in
       let f : v .moves ≡ n = omega arith in
       simp
-      (f, ne-eqb n (movesAt w l i) (λ q. omega arith), le-ltb (movesAt w l i) n (omega arith), head-to w (v .head) n i l k, store-first w i (v .head) l n)
+      (f, ne-eqb n (movesAt l i) (λ q. omega arith), le-ltb (movesAt l i) n (omega arith), head-to (v .head) n i l k, store-first w i (v .head) l n)

@@ -8,6 +8,7 @@ use lib.Dec.{eqb, leb}
 use lib.ListN.{length, set}
 use borrow.Author.Tests.{eq-eqb, ne-eqb, lt-ltb, le-ltb}
 use native.Mathlib.Omega.{arith}
+use Rattle.words.specs.Digits.{depths}
 use Rattle.words.specs.Choice.{pick, both}
 use Rattle.words.proofs.Choice.{via, both-false-left}
 use Rattle.settings.specs.declared.Settings.{Settings}
@@ -245,19 +246,19 @@ module _ (v : Mover) (s : Settings) (a : Move) (os : List Move) (o : Around v a 
       simp
       (p, b, c, d, g, home-is w v a os o m, end-head v a os o, ne-eqb (v .moves - 1) (v .moves) (λ e. omega arith), le-ltb (v .moves) (v .moves - 1) (omega arith))
 
--- SetLook, SetTail, SetRead, SetFollow: a word is read
-module _ (w : ℕ) (v : Mover) (s : Settings) (nodes levels : List ℕ) {r : Moved} {word : ℕ} {q : Bool} where
+-- What a method gives, at the width of its settings. SetLook, SetTail, SetRead, SetFollow: a word is read
+module _ (v : Mover) (s : Settings) (nodes levels : List ℕ) {r : Moved} {word : ℕ} {q : Bool} where
   pub look-gives :
       {x : Cell}
-      → r ≡ peekMet q v s word SetPut SetRead → word ≡ cellAt w (memory nodes levels) x → x ≡ setCellOf w (v .head) (v .inner .last) (memory nodes levels)
-      → q ≡ setEntry w s (v .head) (v .inner .last) (memory nodes levels)
-      → Gives v s (memory nodes levels) r (memory nodes levels) (λ a os. setLooks w s (v .head) (lastNode a) (memory nodes levels)) (λ a os. setLook w s (v .head) a os (memory nodes levels))
+      → r ≡ peekMet q v s word SetPut SetRead → word ≡ cellAt (s .width) (memory nodes levels) x → x ≡ setCellOf (s .width) (v .head) (v .inner .last) (memory nodes levels)
+      → q ≡ setEntry (s .width) s (v .head) (v .inner .last) (memory nodes levels)
+      → Gives v s (memory nodes levels) r (memory nodes levels) (λ a os. setLooks (s .width) s (v .head) (lastNode a) (memory nodes levels)) (λ a os. setLook (s .width) s (v .head) a os (memory nodes levels))
   unfolding setLooks setLook readsRef peekMet
   look-gives p e x-is q =
       let m = memory nodes levels in
       let k = bounded-word v s _ _ p in
       record {
-        gives = λ a os o. peek-met v s a os o _ m _ SetPut SetRead p ∙ simp (e, x-is, cell-is w s v a os o m, q, last-is v a os o);
+        gives = λ a os o. peek-met v s a os o _ m _ SetPut SetRead p ∙ simp (e, x-is, cell-is (s .width) s v a os o m, q, last-is v a os o);
         counts = k .counts;
         most = k .most;
       }
@@ -265,7 +266,7 @@ module _ (w : ℕ) (v : Mover) (s : Settings) (nodes levels : List ℕ) {r : Mov
   pub tail-gives :
       {n : Kind}
       → r ≡ peekMet q v s word n SetFollow → word ≡ nextAt nodes (v .head .node) → n ≡ byCount s (v .head .count) SetAppend SetLevel SetFollow → q ≡ standsAt s (v .head)
-      → Gives v s (memory nodes levels) r (memory nodes levels) (λ a os. tails s (v .head) nodes) (λ a os. setTail w s (v .head) a os (memory nodes levels))
+      → Gives v s (memory nodes levels) r (memory nodes levels) (λ a os. tails s (v .head) nodes) (λ a os. setTail (s .width) s (v .head) a os (memory nodes levels))
   unfolding tails setTail peekMet
   tail-gives {n} p e k-is q =
       let k = bounded-word v s _ _ p in
@@ -273,89 +274,89 @@ module _ (w : ℕ) (v : Mover) (s : Settings) (nodes levels : List ℕ) {r : Mov
 
   pub read-gives :
       {x : Cell}
-      → r ≡ readMet q v s word → word ≡ cellAt w (memory nodes levels) x → x ≡ setCellOf w (v .head) (v .inner .last) (memory nodes levels)
-      → q ≡ setEntry w s (v .head) (v .inner .last) (memory nodes levels)
-      → Gives v s (memory nodes levels) r (memory nodes levels) (λ a os. setLooks w s (v .head) (lastNode a) (memory nodes levels)) (λ a os. setRead w s (v .head) a os (memory nodes levels))
+      → r ≡ readMet q v s word → word ≡ cellAt (s .width) (memory nodes levels) x → x ≡ setCellOf (s .width) (v .head) (v .inner .last) (memory nodes levels)
+      → q ≡ setEntry (s .width) s (v .head) (v .inner .last) (memory nodes levels)
+      → Gives v s (memory nodes levels) r (memory nodes levels) (λ a os. setLooks (s .width) s (v .head) (lastNode a) (memory nodes levels)) (λ a os. setRead (s .width) s (v .head) a os (memory nodes levels))
   unfolding setLooks setRead readsRef readMet
   read-gives p e x-is q =
       let m = memory nodes levels in
       let k = bounded-word v s _ _ p in
       record {
-        gives = λ a os o. read-met v s a os o _ m _ p ∙ simp (e, x-is, cell-is w s v a os o m, q, last-is v a os o);
+        gives = λ a os o. read-met v s a os o _ m _ p ∙ simp (e, x-is, cell-is (s .width) s v a os o m, q, last-is v a os o);
         counts = k .counts;
         most = k .most;
       }
 
   pub follow-gives :
-      r ≡ followMet q w v s word levels → word ≡ nextAt nodes (v .head .node) → q ≡ standsAt s (v .head)
-      → Gives v s (memory nodes levels) r (memory nodes levels) (λ a os. setFollows w s (v .head) (memory nodes levels)) (λ a os. setFollow w s (v .head) a os (memory nodes levels))
+      r ≡ followMet q (s .width) v s word levels → word ≡ nextAt nodes (v .head .node) → q ≡ standsAt s (v .head)
+      → Gives v s (memory nodes levels) r (memory nodes levels) (λ a os. setFollows (s .width) s (v .head) (memory nodes levels)) (λ a os. setFollow (s .width) s (v .head) a os (memory nodes levels))
   unfolding setFollows setFollow followMet
   follow-gives p e q =
       let k = bounded-word v s _ _ p in
-      record { gives = λ a os o. follow-met v s a os o _ w (memory nodes levels) _ p ∙ simp (e, q); counts = k .counts; most = k .most }
+      record { gives = λ a os o. follow-met v s a os o _ (s .width) (memory nodes levels) _ p ∙ simp (e, q); counts = k .counts; most = k .most }
 
 -- SetPut, SetAppend: the exchange, and what is made of the word that it met
-module _ (w : ℕ) (v : Mover) (s : Settings) (nodes levels : List ℕ) {r : Moved} {n l : List ℕ} {word b : ℕ} where
+module _ (v : Mover) (s : Settings) (nodes levels : List ℕ) {r : Moved} {n l : List ℕ} {word b : ℕ} where
   pub put-gives :
       {x : Cell} {q : Bool}
-      → r ≡ putMet v s word → exchanged word (memory n l) ≡ exchange w (memory nodes levels) x (levelRef (v .head .level)) b → b ≡ nodeRef (v .inner .last)
-      → x ≡ setCellOf w (v .head) (v .inner .last) (memory nodes levels) → q ≡ setEntry w s (v .head) (v .inner .last) (memory nodes levels) → q ≡ true
-      → Gives v s (memory nodes levels) r (memory n l) (λ a os. setPuts w s (v .head) (lastNode a) (memory nodes levels)) (λ a os. setPut w s (v .head) a os (memory nodes levels))
+      → r ≡ putMet v s word → exchanged word (memory n l) ≡ exchange (s .width) (memory nodes levels) x (levelRef (v .head .level)) b → b ≡ nodeRef (v .inner .last)
+      → x ≡ setCellOf (s .width) (v .head) (v .inner .last) (memory nodes levels) → q ≡ setEntry (s .width) s (v .head) (v .inner .last) (memory nodes levels) → q ≡ true
+      → Gives v s (memory nodes levels) r (memory n l) (λ a os. setPuts (s .width) s (v .head) (lastNode a) (memory nodes levels)) (λ a os. setPut (s .width) s (v .head) a os (memory nodes levels))
   unfolding setPuts setPut setNode putMet readMet
   put-gives p e b-is x-is q q-yes =
       let m = memory nodes levels in
       let k = bounded-met v s _ _ _ p (bounded-done v s) in
       record {
         gives = λ a os o.
-            exchange-tried w s (v .head) (a ∷ os) m _ true (setCellOf w (v .head) (lastNode a) m) (nodeRef (lastNode a)) (setLast s (v .head) (forget a) os) (setReadWord s (v .head) a os) (λ u z. refTaken s u)
-            (put-is v s a os o _ _ p) e (x-is ∙ cell-is w s v a os o m) (b-is ∙ ap nodeRef (last-is v a os o)) (puts-asked w s v a os o m q q-yes) refl;
+            exchange-tried (s .width) s (v .head) (a ∷ os) m _ true (setCellOf (s .width) (v .head) (lastNode a) m) (nodeRef (lastNode a)) (setLast s (v .head) (forget a) os) (setReadWord s (v .head) a os) (λ u z. refTaken s u)
+            (put-is v s a os o _ _ p) e (x-is ∙ cell-is (s .width) s v a os o m) (b-is ∙ ap nodeRef (last-is v a os o)) (puts-asked (s .width) s v a os o m q q-yes) refl;
         counts = k .counts;
         most = k .most;
       }
 
   pub append-gives :
       {q : Bool}
-      → r ≡ appendMet w v s word l → exchanged word (memory n l) ≡ exchange w (memory nodes levels) (Next (v .head .node)) (levelRef (v .head .level)) b → b ≡ nodeRef (v .inner .last)
+      → r ≡ appendMet (s .width) v s word l → exchanged word (memory n l) ≡ exchange (s .width) (memory nodes levels) (Next (v .head .node)) (levelRef (v .head .level)) b → b ≡ nodeRef (v .inner .last)
       → q ≡ standsSetting s (v .head) (v .inner .last) → q ≡ true
-      → Gives v s (memory nodes levels) r (memory n l) (λ a os. setAppends w s (v .head) (lastNode a) (memory nodes levels)) (λ a os. setAppend w s (v .head) a os (memory nodes levels))
+      → Gives v s (memory nodes levels) r (memory n l) (λ a os. setAppends (s .width) s (v .head) (lastNode a) (memory nodes levels)) (λ a os. setAppend (s .width) s (v .head) a os (memory nodes levels))
   unfolding setAppends setAppend setNode appendMet followMet
   append-gives p e b-is q q-yes =
       let m = memory nodes levels in
       let k = bounded-met v s _ _ _ p (bounded-done v s) in
       record {
         gives = λ a os o.
-            exchange-tried w s (v .head) (a ∷ os) m _ true (Next (v .head .node)) (nodeRef (lastNode a)) (setLast s (v .head) (forget a) os) (setFollowWord w s (v .head) a os) (λ u z. setFollowsRef w s (v .head) u (z .levels))
-            (append-is v s a os o w _ _ p) e refl (b-is ∙ ap nodeRef (last-is v a os o)) (appends-asked w s v a os o q q-yes) refl;
+            exchange-tried (s .width) s (v .head) (a ∷ os) m _ true (Next (v .head .node)) (nodeRef (lastNode a)) (setLast s (v .head) (forget a) os) (setFollowWord (s .width) s (v .head) a os) (λ u z. setFollowsRef (s .width) s (v .head) u (z .levels))
+            (append-is v s a os o (s .width) _ _ p) e refl (b-is ∙ ap nodeRef (last-is v a os o)) (appends-asked (s .width) s v a os o q q-yes) refl;
         counts = k .counts;
         most = k .most;
       }
 
 -- SetClose: the exchange where a Move more has room, and R's next read where none has
-module _ (v : Mover) (s : Settings) (nodes levels : List ℕ) {r : Moved} {q : Bool} where
+module _ (v : Mover) (s : Settings) (nodes levels : List ℕ) {r : Moved} {q : Bool} {most : ℕ} where
   pub close-gives :
       {n l : List ℕ} {word b : ℕ}
-      → r ≡ closeMet 3 v s word l → exchanged word (memory n l) ≡ exchange 3 (memory nodes levels) (Next (v .head .node)) (levelRef (v .head .level)) b → b ≡ levelRef (v .head .«held_level» - 1)
-      → v .moves < 7 → q ≡ standsWith s (v .head) (v .head .«held_level») (s .«levels_taken») → q ≡ true
-      → Gives v s (memory nodes levels) r (memory n l) (λ a os. setCloses 3 s (v .head) (a ∷ os) (memory nodes levels)) (λ a os. setClose 3 s (v .head) a os (memory nodes levels))
+      → r ≡ closeMet (s .width) v s word l → exchanged word (memory n l) ≡ exchange (s .width) (memory nodes levels) (Next (v .head .node)) (levelRef (v .head .level)) b → b ≡ levelRef (v .head .«held_level» - 1)
+      → most ≡ depths (s .width) - 1 → v .moves < most → q ≡ standsWith s (v .head) (v .head .«held_level») (s .«levels_taken») → q ≡ true
+      → Gives v s (memory nodes levels) r (memory n l) (λ a os. setCloses (s .width) s (v .head) (a ∷ os) (memory nodes levels)) (λ a os. setClose (s .width) s (v .head) a os (memory nodes levels))
   unfolding setCloses setClose closed closeMet followMet
-  close-gives p e b-is room q q-yes =
+  close-gives p e b-is m-is room q q-yes =
       let m = memory nodes levels in
       let k = bounded-met v s _ _ _ p (bounded-begun v s) in
       record {
         gives = λ a os o.
-            exchange-tried 3 s (v .head) (a ∷ os) m _ (moveLeft 3 (a ∷ os)) (Next (v .head .node)) (levelRef (v .head .«held_level» - 1)) (beginsMove s (v .head) (a ∷ os)) (setFollowWord 3 s (v .head) a os) (λ u z. setFollowsRef 3 s (v .head) u (z .levels))
-            (close-is v s a os o 3 _ _ p) e refl b-is (via q q-yes) (left-true v a os o room);
+            exchange-tried (s .width) s (v .head) (a ∷ os) m _ (moveLeft (s .width) (a ∷ os)) (Next (v .head .node)) (levelRef (v .head .«held_level» - 1)) (beginsMove s (v .head) (a ∷ os)) (setFollowWord (s .width) s (v .head) a os) (λ u z. setFollowsRef (s .width) s (v .head) u (z .levels))
+            (close-is v s a os o (s .width) _ _ p) e refl b-is (via q q-yes) (left-true (s .width) m-is v a os o room);
         counts = k .counts;
         most = k .most;
       }
 
   pub no-room-gives :
-      r ≡ closeNoRoom 3 v s (nextAt nodes (v .head .node)) levels → 7 ≤ v .moves → q ≡ standsWith s (v .head) (v .head .«held_level») (s .«levels_taken») → q ≡ true
-      → Gives v s (memory nodes levels) r (memory nodes levels) (λ a os. setCloses 3 s (v .head) (a ∷ os) (memory nodes levels)) (λ a os. setClose 3 s (v .head) a os (memory nodes levels))
+      r ≡ closeNoRoom (s .width) v s (nextAt nodes (v .head .node)) levels → most ≡ depths (s .width) - 1 → most ≤ v .moves → q ≡ standsWith s (v .head) (v .head .«held_level») (s .«levels_taken») → q ≡ true
+      → Gives v s (memory nodes levels) r (memory nodes levels) (λ a os. setCloses (s .width) s (v .head) (a ∷ os) (memory nodes levels)) (λ a os. setClose (s .width) s (v .head) a os (memory nodes levels))
   unfolding closeNoRoom followMet
-  no-room-gives p full q q-yes =
+  no-room-gives p m-is full q q-yes =
       let k = bounded-met v s _ _ _ p (bounded-refused v s) in
-      record { gives = λ a os o. no-room-is v s a os o 3 (memory nodes levels) _ refl p (left-false v a os o full) (via q q-yes); counts = k .counts; most = k .most }
+      record { gives = λ a os o. no-room-is v s a os o (s .width) (memory nodes levels) _ refl p (left-false (s .width) m-is v a os o full) (via q q-yes); counts = k .counts; most = k .most }
 
 -- a kind that is none of a Move is not asked
 not-true : (x : Bool) → not x ≡ true → x ≡ false
@@ -366,7 +367,7 @@ not-true false e = refl
 module _ (v : Mover) (s : Settings) (m : Memory) where
   abbrev pub GivesBy : Kind → Moved → Memory → Type 0
   GivesBy k r m′ =
-      Gives v s m r m′ (λ a os. both (isMoving k) (readsBy k 3 s (v .head) (a ∷ os) m)) (λ a os. actBy k 3 s (v .head) (a ∷ os) m)
+      Gives v s m r m′ (λ a os. both (isMoving k) (readsBy k (s .width) s (v .head) (a ∷ os) m)) (λ a os. actBy k (s .width) s (v .head) (a ∷ os) m)
 
   pub turn-kind : (k : Kind) (r : Moved) (m′ : Memory) → GivesBy k r m′ → v .head .kind ≡ k → GivesBy (v .head .kind) r m′
   turn-kind k r m′ a e = subst (λ (x : Kind). GivesBy x r m′) (sym e) a

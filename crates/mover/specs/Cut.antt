@@ -5,7 +5,7 @@ use mathlib.Core.Bool.{Bool, true}
 use mathlib.Core.List.{List}
 use lib.Dec.{eqb, leb}
 use Rattle.words.specs.Choice.{pick, both}
-use Rattle.words.specs.Digits.{depths}
+use Rattle.words.specs.Digits.{lastDepth}
 use Rattle.settings.specs.declared.Settings.{Settings}
 use Rattle.areas.specs.Memory.{Memory, isNode, named, pixelAt, entryCell, levelTaken, refTaken}
 use Rattle.areas.specs.declared.Cell.{Cell}
@@ -81,7 +81,7 @@ unfoldable pub metHead : Head → ℕ → ℕ → ℕ → Head
 metHead h c g word = pick (isNode word) (toNode SetTail (named word) c h) (toLevel SetNext g h)
 
 unfoldable pub followHead : ℕ → Settings → Head → ℕ → List ℕ → Head
-followHead w s h word levels = metHead h (more s (h .count)) (childOf w levels (depths w - 1) (h .level) (named word)) word
+followHead w s h word levels = metHead h (more s (h .count)) (childOf w levels (lastDepth w) (h .level) (named word)) word
 
 -- SetPut, SetAppend: the node remembered last is set
 abbrev pub setDone : Mover → Settings → Moved

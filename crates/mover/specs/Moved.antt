@@ -7,6 +7,7 @@ use mathlib.Core.List.{List, [], _∷_}
 use lib.Dec.{eqb, ltb}
 use lib.ListN.{length, set}
 use Rattle.words.specs.Choice.{pick}
+use Rattle.settings.specs.Sizes.{maxLimit}
 use Rattle.settings.specs.declared.Settings.{Settings}
 use Rattle.areas.specs.Memory.{Memory}
 use Rattle.record.specs.declared.Move.{Move}
@@ -63,4 +64,4 @@ moved v r a os m = tried (r .number) (step (r .answer) (r .settings) (r .mover .
 pub record Gives (v : Mover) (s : Settings) (m : Memory) (r : Moved) (m′ : Memory) (asks : Move → List Move → Bool) (acts : Move → List Move → Step) : Type 0 where
   pub gives : (a : Move) (os : List Move) → Around v a os → moved v r a os m′ ≡ unlessSix (asks a os) s (v .head) (a ∷ os) m (tried 0 (acts a os))
   pub counts : Counts v (r .mover)
-  pub most : v .inner .count ≤ 8 → r .mover .inner .count ≤ 8
+  pub most : v .inner .count ≤ maxLimit → r .mover .inner .count ≤ maxLimit

@@ -20,17 +20,17 @@ lastAt l p = getD l (p + 3 + (getD l (p + 2) 0 - 1)) 0
 unfoldable pub innerAt : List ℕ → ℕ → Inner
 innerAt l p = record { home = getD l p 0; child = getD l (p + 1) 0; count = getD l (p + 2) 0; last = lastAt l p }
 
-unfoldable pub outerAt : ℕ → List ℕ → ℕ → ℕ → ℕ
-outerAt w l i n = pick (leb n 1) 0 (lastAt l (movePlace w i (n - 2)))
+unfoldable pub outerAt : List ℕ → ℕ → ℕ → ℕ
+outerAt l i n = pick (leb n 1) 0 (lastAt l (movePlace i (n - 2)))
 
 -- the mover in a worker's words, with the head h
-unfoldable pub moverAt : ℕ → List ℕ → ℕ → Head → Mover
-moverAt w l i h =
+unfoldable pub moverAt : List ℕ → ℕ → Head → Mover
+moverAt l i h =
     record {
       head = h;
-      moves = movesAt w l i;
-      inner = innerAt l (movePlace w i (movesAt w l i - 1));
-      outer = outerAt w l i (movesAt w l i);
+      moves = movesAt l i;
+      inner = innerAt l (movePlace i (movesAt l i - 1));
+      outer = outerAt l i (movesAt l i);
     }
 
 -- what a moving turn does not change of a head
@@ -41,12 +41,12 @@ pub record Keeps (h h₀ : Head) : Type 0 where
   pub answer-node-is : h .«answer_node» ≡ h₀ .«answer_node»
 
 -- the words with the head and the number n of Moves: pixel, held node, last answer and its node are not changed by a moving turn
-unfoldable pub headTo : ℕ → Head → ℕ → ℕ → List ℕ → List ℕ
-headTo w h n i l =
+unfoldable pub headTo : Head → ℕ → ℕ → List ℕ → List ℕ
+headTo h n i l =
     set
-    (set (sets (set l (workerPlace w i) (kindNo (h .kind))) (workerPlace w i + 2) (h .level ∷ h .node ∷ h .count ∷ [])) (workerPlace w i + 6)
+    (set (sets (set l (workerPlace i) (kindNo (h .kind))) (workerPlace i + 2) (h .level ∷ h .node ∷ h .count ∷ [])) (workerPlace i + 6)
     (h .«held_level»))
-    (workerPlace w i + 9)
+    (workerPlace i + 9)
     n
 
 -- the words with the Move at place p: a node that is remembered newly, then how many there are
@@ -57,11 +57,11 @@ unfoldable pub innerOn : Inner → ℕ → List ℕ → List ℕ
 innerOn v p l = set (lastTo v p l) (p + 2) (v .count)
 
 -- the innermost Move: what changed of it, all of one that has begun, and nothing where one has ended
-unfoldable pub innerTo : ℕ → ℕ → Mover → ℕ → List ℕ → List ℕ
-innerTo w before v i l =
+unfoldable pub innerTo : ℕ → Mover → ℕ → List ℕ → List ℕ
+innerTo before v i l =
     pick (eqb (v .moves) before)
-    (innerOn (v .inner) (movePlace w i (v .moves - 1)) l)
-    (pick (ltb before (v .moves)) (moveTo (newMove (v .inner .home) (v .inner .child)) (movePlace w i (v .moves - 1)) l) l)
+    (innerOn (v .inner) (movePlace i (v .moves - 1)) l)
+    (pick (ltb before (v .moves)) (moveTo (newMove (v .inner .home) (v .inner .child)) (movePlace i (v .moves - 1)) l) l)
 
-unfoldable pub moverTo : ℕ → Mover → ℕ → List ℕ → List ℕ
-moverTo w v i l = innerTo w (movesAt w l i) v i (headTo w (v .head) (v .moves) i l)
+unfoldable pub moverTo : Mover → ℕ → List ℕ → List ℕ
+moverTo v i l = innerTo (movesAt l i) v i (headTo (v .head) (v .moves) i l)

@@ -2,8 +2,10 @@
 // Relies on steps for what searching and moving do alike, on rules for the definitions.
 ghost use mathlib.Core.Path.{_≡_};
 ghost use mathlib.Core.List.{_∷_};
-ghost use Prim.Native.Nat.{_+_, _-_, _≤_, _<_};
+ghost use Prim.Native.Nat.{_+_, _-_, _≤_};
 ghost use Rattle.words.specs.Choice.{both};
+ghost use Rattle.words.specs.Digits.{DigitWidth};
+ghost use Rattle.settings.specs.Sizes.{maxLimit, mostDepth};
 ghost use Rattle.settings.specs.Cut.{Sized};
 ghost use Rattle.areas.specs.Memory.{memory, nextAt, nodeTaken};
 ghost use Rattle.rules.specs.Heads.{lastNode};
@@ -37,6 +39,7 @@ use record::move_place;
 use record::moves_at;
 use record::worker_place;
 use settings::Settings;
+use settings::last_depth;
 use steps::by_count;
 use steps::counted;
 use steps::exchange_from;
@@ -93,7 +96,7 @@ fn less_one(n: u32) -> u32
 
 // The node that the Move at place p remembered last.
 fn last_at(words: &[u32], p: usize) -> u32
-    requires { ⌜ p ≤ 600000000000 ⌝ }
+    requires { ⌜ p ≤ 1200000000000 ⌝ }
     ensures { λ r. ⌜ r ≡ lastAt (now (words .entry)) p ⌝ }
 {
     let i = less_one(at(words, p + 2)) as usize;
@@ -102,7 +105,7 @@ fn last_at(words: &[u32], p: usize) -> u32
 
 // One node more is remembered.
 fn remember(i: u32, v: Inner) -> Inner
-    requires { ⌜ v .count ≤ 8 ⌝ }
+    requires { ⌜ v .count ≤ maxLimit ⌝ }
     ensures { λ r. ⌜ r ≡ rememberIn i v ⌝ }
 {
     Inner {
@@ -129,7 +132,7 @@ fn forget(v: Inner) -> Inner
 
 // A node read from a chain has room among those remembered.
 fn room(s: Settings, v: Inner, word: u32) -> bool
-    requires { ⌜ v .count ≤ 8 ⌝ }
+    requires { ⌜ v .count ≤ maxLimit ⌝ }
     ensures { λ r. ⌜ r ≡ roomIn s v word ⌝ }
 {
     if is_node(word) {
@@ -140,14 +143,14 @@ fn room(s: Settings, v: Inner, word: u32) -> bool
 }
 
 fn word_asked(s: Settings, v: Inner, word: u32) -> bool
-    requires { ⌜ v .count ≤ 8 ⌝ }
+    requires { ⌜ v .count ≤ maxLimit ⌝ }
     ensures { λ r. ⌜ r ≡ wordAsked s v word ⌝ }
 {
     and(ref_taken(s, word), room(s, v, word))
 }
 
 fn chain_nexts(s: Settings, v: Inner, word: u32) -> bool
-    requires { ⌜ v .count ≤ 8 ⌝ }
+    requires { ⌜ v .count ≤ maxLimit ⌝ }
     ensures { λ r. ⌜ r ≡ both (nodeTaken s (v .last)) (wordAsked s v word) ⌝ }
 {
     and(node_taken(s, v.last), word_asked(s, v, word))
@@ -161,16 +164,18 @@ fn set_nexts(s: Settings, h: Head, n: u32) -> bool
 }
 
 fn set_entry(s: Settings, h: Head, n: u32, nodes: &[u32], levels: &[u32]) -> bool
-    ensures { λ r. ⌜ r ≡ setEntry 3 s h n (memory (now (nodes .entry)) (now (levels .entry))) ⌝ }
+    requires { ⌜ DigitWidth (s .width) ⌝ }
+    ensures { λ r. ⌜ r ≡ setEntry (s .width) s h n (memory (now (nodes .entry)) (now (levels .entry))) ⌝ }
 {
     and(picks_in(s, h.level, levels), pixel_fits(s, n, nodes))
 }
 
 // The entry of N in the level that it is set into.
-fn set_cell_of(h: Head, n: u32, nodes: &[u32], levels: &[u32]) -> Cell
-    ensures { λ r. ⌜ r ≡ setCellOf 3 h n (memory (now (nodes .entry)) (now (levels .entry))) ⌝ }
+fn set_cell_of(w: u32, h: Head, n: u32, nodes: &[u32], levels: &[u32]) -> Cell
+    requires { ⌜ DigitWidth w ⌝ }
+    ensures { λ r. ⌜ r ≡ setCellOf w h n (memory (now (nodes .entry)) (now (levels .entry))) ⌝ }
 {
-    entry_cell(levels, h.level, pixel_at(nodes, n))
+    entry_cell(w, levels, h.level, pixel_at(nodes, n))
 }
 
 fn stands_setting(s: Settings, h: Head, n: u32) -> bool
@@ -203,7 +208,7 @@ fn met_head(h: Head, c: u32, g: u32, word: u32) -> Head
 
 // The last node of the Move around Move n - 1 of worker i, 0 where there is none.
 fn outer_at(words: &[u32], i: u32, n: u32) -> u32
-    ensures { λ r. ⌜ r ≡ outerAt 3 (now (words .entry)) i n ⌝ }
+    ensures { λ r. ⌜ r ≡ outerAt (now (words .entry)) i n ⌝ }
 {
     if n <= 1 {
         0
@@ -214,7 +219,7 @@ fn outer_at(words: &[u32], i: u32, n: u32) -> u32
 
 // The words of the head that a moving turn can change, and the number of Moves.
 fn store_head(h: Head, moves: u32, words: &mut [u32], i: u32)
-    ensures { λ r. ⌜ now (words .exit) ≡ headTo 3 h moves i (now (words .entry)) ⌝ }
+    ensures { λ r. ⌜ now (words .exit) ≡ headTo h moves i (now (words .entry)) ⌝ }
 {
     let p = worker_place(i);
     let k = h.kind;
@@ -228,7 +233,7 @@ fn store_head(h: Head, moves: u32, words: &mut [u32], i: u32)
 impl Inner {
     // What a turn needs of the Move at place p.
     fn load(words: &[u32], p: usize) -> Inner
-        requires { ⌜ p ≤ 600000000000 ⌝ }
+        requires { ⌜ p ≤ 1200000000000 ⌝ }
         ensures { λ r. ⌜ r ≡ innerAt (now (words .entry)) p ⌝ }
     {
         Inner {
@@ -241,7 +246,7 @@ impl Inner {
 
     // A node that has been remembered in this turn is written.
     fn store_last(self, words: &mut [u32], p: usize)
-        requires { ⌜ p ≤ 600000000000 ⌝ }
+        requires { ⌜ p ≤ 1200000000000 ⌝ }
         ensures { λ r. ⌜ now (words .exit) ≡ lastTo self p (now (words .entry)) ⌝ }
     {
         if at(words, p + 2) < self.count {
@@ -251,7 +256,7 @@ impl Inner {
 
     // What a turn can change of the Move at place p: how many nodes it remembers, and the last of them where that is one more.
     fn store(self, words: &mut [u32], p: usize)
-        requires { ⌜ p ≤ 600000000000 ⌝ }
+        requires { ⌜ p ≤ 1200000000000 ⌝ }
         ensures { λ r. ⌜ now (words .exit) ≡ innerOn self p (now (words .entry)) ⌝ }
     {
         self.store_last(words, p);
@@ -262,7 +267,7 @@ impl Inner {
 impl Mover {
     // The mover of worker i with the head h, as its words say.
     pub fn load(words: &[u32], i: u32, h: Head) -> Mover
-        ensures { λ r. ⌜ r ≡ moverAt 3 (now (words .entry)) i h ⌝ }
+        ensures { λ r. ⌜ r ≡ moverAt (now (words .entry)) i h ⌝ }
     {
         let n = moves_at(words, i);
         let v = Inner::load(words, move_place(i, less_one(n)));
@@ -276,7 +281,7 @@ impl Mover {
 
     // The innermost Move is written: what changed of it, or all of one that has begun. Where one has ended, the one around it stands in the words.
     fn store_inner(self, before: u32, words: &mut [u32], i: u32)
-        ensures { λ r. ⌜ now (words .exit) ≡ innerTo 3 before self i (now (words .entry)) ⌝ }
+        ensures { λ r. ⌜ now (words .exit) ≡ innerTo before self i (now (words .entry)) ⌝ }
     {
         let n = self.moves;
         let v = self.inner;
@@ -291,7 +296,7 @@ impl Mover {
 
     // What a turn can change is written to the words of worker i.
     pub fn store(self, words: &mut [u32], i: u32)
-        ensures { λ r. ⌜ now (words .exit) ≡ moverTo 3 self i (now (words .entry)) ⌝ }
+        ensures { λ r. ⌜ now (words .exit) ≡ moverTo self i (now (words .entry)) ⌝ }
     {
         let before = moves_at(words, i);
         store_head(self.head, self.moves, words, i);
@@ -349,23 +354,26 @@ impl Mover {
     }
 
     // The entry of the key in H.
-    fn home_cell(self, nodes: &[u32], levels: &[u32]) -> Cell
-        ensures { λ r. ⌜ r ≡ homeCut 3 self (memory (now (nodes .entry)) (now (levels .entry))) ⌝ }
+    fn home_cell(self, w: u32, nodes: &[u32], levels: &[u32]) -> Cell
+        requires { ⌜ DigitWidth w ⌝ }
+        ensures { λ r. ⌜ r ≡ homeCut w self (memory (now (nodes .entry)) (now (levels .entry))) ⌝ }
     {
         let v = self.inner;
-        entry_cell(levels, v.home, self.key(nodes))
+        entry_cell(w, levels, v.home, self.key(nodes))
     }
 
     fn picks_home(self, s: Settings, nodes: &[u32], levels: &[u32]) -> bool
-        ensures { λ r. ⌜ r ≡ picksHomeCut 3 s self (memory (now (nodes .entry)) (now (levels .entry))) ⌝ }
+        requires { ⌜ DigitWidth (s .width) ⌝ }
+        ensures { λ r. ⌜ r ≡ picksHomeCut (s .width) s self (memory (now (nodes .entry)) (now (levels .entry))) ⌝ }
     {
         let v = self.inner;
         and(picks_in(s, v.home, levels), self.key_fits(s, nodes))
     }
 
     fn chain_heads(self, s: Settings, word: u32, nodes: &[u32], levels: &[u32]) -> bool
-        requires { ⌜ self .inner .count ≤ 8 ⌝ }
-        ensures { λ r. ⌜ r ≡ both (picksHomeCut 3 s self (memory (now (nodes .entry)) (now (levels .entry)))) (wordAsked s (self .inner) word) ⌝ }
+        requires { ⌜ DigitWidth (s .width) ⌝ }
+        requires { ⌜ self .inner .count ≤ maxLimit ⌝ }
+        ensures { λ r. ⌜ r ≡ both (picksHomeCut (s .width) s self (memory (now (nodes .entry)) (now (levels .entry)))) (wordAsked s (self .inner) word) ⌝ }
     {
         and(
             self.picks_home(s, nodes, levels),
@@ -374,7 +382,8 @@ impl Mover {
     }
 
     fn move_ends(self, s: Settings, nodes: &[u32], levels: &[u32]) -> bool
-        ensures { λ r. ⌜ r ≡ moveEndsCut 3 s self (memory (now (nodes .entry)) (now (levels .entry))) ⌝ }
+        requires { ⌜ DigitWidth (s .width) ⌝ }
+        ensures { λ r. ⌜ r ≡ moveEndsCut (s .width) s self (memory (now (nodes .entry)) (now (levels .entry))) ⌝ }
     {
         let v = self.inner;
         and(self.picks_home(s, nodes, levels), level_taken(s, v.child))
@@ -382,7 +391,7 @@ impl Mover {
 
     // A word read from the chain: a node is remembered, at a level the chain has ended.
     fn chain_word(self, s: Settings, word: u32) -> Moved
-        requires { ⌜ self .inner .count ≤ 8 ⌝ }
+        requires { ⌜ self .inner .count ≤ maxLimit ⌝ }
         ensures { λ r. ⌜ r ≡ stays self s (wordHead (self .head) (self .inner) word) (wordInner (self .inner) word) ⌝ }
     {
         let h = self.head;
@@ -427,11 +436,12 @@ impl Mover {
     // The word that SetFollow, or a failed SetAppend or SetClose met: question 6, then what SetFollow does with it. A node: count + 1. A level: go back to
     // the child of G and set N there.
     fn follow_met(self, before: bool, s: Settings, word: u32, levels: &[u32]) -> Moved
-        requires { ⌜ s .limit ≤ 8 ⌝ }
-        ensures { λ r. ⌜ r ≡ followMet before 3 self s word (now (levels .entry)) ⌝ }
+        requires { ⌜ DigitWidth (s .width) ⌝ }
+        requires { ⌜ s .limit ≤ maxLimit ⌝ }
+        ensures { λ r. ⌜ r ≡ followMet before (s .width) self s word (now (levels .entry)) ⌝ }
     {
         let h = self.head;
-        let w = way_back(s.levels_taken, h.level, word, levels);
+        let w = way_back(s.width, s.levels_taken, h.level, word, levels);
         if and(before, and(ref_taken(s, word), w.meets)) {
             self.stay(s, met_head(h, more(s, h.count), w.child, word), self.inner)
         } else {
@@ -454,7 +464,7 @@ impl Mover {
     // The word that SetAppend's exchange met. The level that N is set into: N is set. Another: as a failed SetAppend.
     fn append_met(self, s: Settings, word: u32, levels: &[u32]) -> Moved
         requires { ⌜ Sized s ⌝ }
-        ensures { λ r. ⌜ r ≡ appendMet 3 self s word (now (levels .entry)) ⌝ }
+        ensures { λ r. ⌜ r ≡ appendMet (s .width) self s word (now (levels .entry)) ⌝ }
     {
         let h = self.head;
         if refers_to(word, h.level) {
@@ -466,7 +476,7 @@ impl Mover {
 
     // A Move to the level in hand begins inside the innermost Move.
     fn begun(self, s: Settings) -> Moved
-        requires { ⌜ self .moves < 7 ⌝ }
+        requires { ⌜ self .moves ≤ mostDepth ⌝ }
         requires { ⌜ 1 ≤ self .head .«held_level» ⌝ }
         ensures { λ r. ⌜ r ≡ begunCut self s ⌝ }
     {
@@ -493,9 +503,9 @@ impl Mover {
     // The word that SetClose's exchange met. The level that N is set into: a Move inside begins. Another: as a failed SetClose.
     fn close_met(self, s: Settings, word: u32, levels: &[u32]) -> Moved
         requires { ⌜ Sized s ⌝ }
-        requires { ⌜ self .moves < 7 ⌝ }
+        requires { ⌜ self .moves ≤ mostDepth ⌝ }
         requires { ⌜ 1 ≤ self .head .«held_level» ⌝ }
-        ensures { λ r. ⌜ r ≡ closeMet 3 self s word (now (levels .entry)) ⌝ }
+        ensures { λ r. ⌜ r ≡ closeMet (s .width) self s word (now (levels .entry)) ⌝ }
     {
         let h = self.head;
         if refers_to(word, h.level) {
@@ -509,7 +519,7 @@ impl Mover {
     // Another: as a failed SetClose.
     fn close_no_room(self, s: Settings, nodes: &[u32], levels: &[u32]) -> Moved
         requires { ⌜ Sized s ⌝ }
-        ensures { λ r. ⌜ r ≡ closeNoRoom 3 self s (nextAt (now (nodes .entry)) (self .head .node)) (now (levels .entry)) ⌝ }
+        ensures { λ r. ⌜ r ≡ closeNoRoom (s .width) self s (nextAt (now (nodes .entry)) (self .head .node)) (now (levels .entry)) ⌝ }
     {
         let h = self.head;
         let word = next_at(nodes, h.node);
@@ -554,10 +564,15 @@ impl Mover {
     // ChainHead: read the entry of the key in H.
     pub fn chain_head(self, s: Settings, nodes: &[u32], levels: &[u32]) -> Moved
         requires { ⌜ Sized s ⌝ }
-        requires { ⌜ self .inner .count ≤ 8 ⌝ }
-        ensures { λ r. ⌜ Gives self s (memory (now (nodes .entry)) (now (levels .entry))) r (memory (now (nodes .entry)) (now (levels .entry))) (λ a os. chainHeads 3 s (self .head) a os (memory (now (nodes .entry)) (now (levels .entry)))) (λ a os. chainHead 3 s (self .head) a os (memory (now (nodes .entry)) (now (levels .entry)))) ⌝ }
+        requires { ⌜ self .inner .count ≤ maxLimit ⌝ }
+        ensures { λ r. ⌜ Gives self s (memory (now (nodes .entry)) (now (levels .entry))) r (memory (now (nodes .entry)) (now (levels .entry))) (λ a os. chainHeads (s .width) s (self .head) a os (memory (now (nodes .entry)) (now (levels .entry)))) (λ a os. chainHead (s .width) s (self .head) a os (memory (now (nodes .entry)) (now (levels .entry)))) ⌝ }
     {
-        let word = cell_at(self.home_cell(nodes, levels), nodes, levels);
+        let word = cell_at(
+            s.width,
+            self.home_cell(s.width, nodes, levels),
+            nodes,
+            levels,
+        );
         if self.chain_heads(s, word, nodes, levels) {
             self.chain_word(s, word)
         } else {
@@ -568,8 +583,8 @@ impl Mover {
     // ChainNext: read the next of the node remembered last.
     pub fn chain_next(self, s: Settings, nodes: &[u32], levels: &[u32]) -> Moved
         requires { ⌜ Sized s ⌝ }
-        requires { ⌜ self .inner .count ≤ 8 ⌝ }
-        ensures { λ r. ⌜ Gives self s (memory (now (nodes .entry)) (now (levels .entry))) r (memory (now (nodes .entry)) (now (levels .entry))) (λ a os. chainNexts s a (now (nodes .entry))) (λ a os. chainNext 3 s (self .head) a os (memory (now (nodes .entry)) (now (levels .entry)))) ⌝ }
+        requires { ⌜ self .inner .count ≤ maxLimit ⌝ }
+        ensures { λ r. ⌜ Gives self s (memory (now (nodes .entry)) (now (levels .entry))) r (memory (now (nodes .entry)) (now (levels .entry))) (λ a os. chainNexts s a (now (nodes .entry))) (λ a os. chainNext (s .width) s (self .head) a os (memory (now (nodes .entry)) (now (levels .entry)))) ⌝ }
     {
         let v = self.inner;
         let word = next_at(nodes, v.last);
@@ -583,8 +598,8 @@ impl Mover {
     // SetNext: write N's next = the level that it is set into.
     pub fn set_next_word(self, s: Settings, nodes: &mut [u32], levels: &[u32]) -> Moved
         requires { ⌜ Sized s ⌝ }
-        requires { ⌜ self .inner .count ≤ 8 ⌝ }
-        ensures { λ r. ⌜ Gives self s (memory (now (nodes .entry)) (now (levels .entry))) r (memory (now (nodes .exit)) (now (levels .entry))) (λ a os. setNexts s (self .head) (lastNode a)) (λ a os. setNext 3 s (self .head) a os (memory (now (nodes .entry)) (now (levels .entry)))) ⌝ }
+        requires { ⌜ self .inner .count ≤ maxLimit ⌝ }
+        ensures { λ r. ⌜ Gives self s (memory (now (nodes .entry)) (now (levels .entry))) r (memory (now (nodes .exit)) (now (levels .entry))) (λ a os. setNexts s (self .head) (lastNode a)) (λ a os. setNext (s .width) s (self .head) a os (memory (now (nodes .entry)) (now (levels .entry)))) ⌝ }
     {
         let h = self.head;
         let v = self.inner;
@@ -599,13 +614,13 @@ impl Mover {
     // SetLook: read N's entry in that level.
     pub fn set_look(self, s: Settings, nodes: &[u32], levels: &[u32]) -> Moved
         requires { ⌜ Sized s ⌝ }
-        requires { ⌜ self .inner .count ≤ 8 ⌝ }
-        ensures { λ r. ⌜ Gives self s (memory (now (nodes .entry)) (now (levels .entry))) r (memory (now (nodes .entry)) (now (levels .entry))) (λ a os. setLooks 3 s (self .head) (lastNode a) (memory (now (nodes .entry)) (now (levels .entry)))) (λ a os. setLook 3 s (self .head) a os (memory (now (nodes .entry)) (now (levels .entry)))) ⌝ }
+        requires { ⌜ self .inner .count ≤ maxLimit ⌝ }
+        ensures { λ r. ⌜ Gives self s (memory (now (nodes .entry)) (now (levels .entry))) r (memory (now (nodes .entry)) (now (levels .entry))) (λ a os. setLooks (s .width) s (self .head) (lastNode a) (memory (now (nodes .entry)) (now (levels .entry)))) (λ a os. setLook (s .width) s (self .head) a os (memory (now (nodes .entry)) (now (levels .entry)))) ⌝ }
     {
         let h = self.head;
         let v = self.inner;
-        let x = set_cell_of(h, v.last, nodes, levels);
-        let word = cell_at(x, nodes, levels);
+        let x = set_cell_of(s.width, h, v.last, nodes, levels);
+        let word = cell_at(s.width, x, nodes, levels);
         let before = set_entry(s, h, v.last, nodes, levels);
         self.peek_met(before, s, word, Kind::SetPut, Kind::SetRead)
     }
@@ -613,15 +628,15 @@ impl Mover {
     // SetPut: exchange the entry to N.
     pub fn set_put(self, s: Settings, nodes: &mut [u32], levels: &mut [u32]) -> Moved
         requires { ⌜ Sized s ⌝ }
-        requires { ⌜ self .inner .count ≤ 8 ⌝ }
-        ensures { λ r. ⌜ Gives self s (memory (now (nodes .entry)) (now (levels .entry))) r (memory (now (nodes .exit)) (now (levels .exit))) (λ a os. setPuts 3 s (self .head) (lastNode a) (memory (now (nodes .entry)) (now (levels .entry)))) (λ a os. setPut 3 s (self .head) a os (memory (now (nodes .entry)) (now (levels .entry)))) ⌝ }
+        requires { ⌜ self .inner .count ≤ maxLimit ⌝ }
+        ensures { λ r. ⌜ Gives self s (memory (now (nodes .entry)) (now (levels .entry))) r (memory (now (nodes .exit)) (now (levels .exit))) (λ a os. setPuts (s .width) s (self .head) (lastNode a) (memory (now (nodes .entry)) (now (levels .entry)))) (λ a os. setPut (s .width) s (self .head) a os (memory (now (nodes .entry)) (now (levels .entry)))) ⌝ }
     {
         let h = self.head;
         let v = self.inner;
         if set_entry(s, h, v.last, nodes, levels) {
-            let x = set_cell_of(h, v.last, nodes, levels);
+            let x = set_cell_of(s.width, h, v.last, nodes, levels);
             let n = node_ref(v.last);
-            let word = exchange_from(h.level, x, n, nodes, levels);
+            let word = exchange_from(s.width, h.level, x, n, nodes, levels);
             self.put_met(s, word)
         } else {
             self.refused(s)
@@ -631,21 +646,21 @@ impl Mover {
     // SetRead: read the entry again.
     pub fn set_read(self, s: Settings, nodes: &[u32], levels: &[u32]) -> Moved
         requires { ⌜ Sized s ⌝ }
-        requires { ⌜ self .inner .count ≤ 8 ⌝ }
-        ensures { λ r. ⌜ Gives self s (memory (now (nodes .entry)) (now (levels .entry))) r (memory (now (nodes .entry)) (now (levels .entry))) (λ a os. setLooks 3 s (self .head) (lastNode a) (memory (now (nodes .entry)) (now (levels .entry)))) (λ a os. setRead 3 s (self .head) a os (memory (now (nodes .entry)) (now (levels .entry)))) ⌝ }
+        requires { ⌜ self .inner .count ≤ maxLimit ⌝ }
+        ensures { λ r. ⌜ Gives self s (memory (now (nodes .entry)) (now (levels .entry))) r (memory (now (nodes .entry)) (now (levels .entry))) (λ a os. setLooks (s .width) s (self .head) (lastNode a) (memory (now (nodes .entry)) (now (levels .entry)))) (λ a os. setRead (s .width) s (self .head) a os (memory (now (nodes .entry)) (now (levels .entry)))) ⌝ }
     {
         let h = self.head;
         let v = self.inner;
-        let x = set_cell_of(h, v.last, nodes, levels);
-        let word = cell_at(x, nodes, levels);
+        let x = set_cell_of(s.width, h, v.last, nodes, levels);
+        let word = cell_at(s.width, x, nodes, levels);
         self.read_met(set_entry(s, h, v.last, nodes, levels), s, word)
     }
 
     // SetTail: read R's next.
     pub fn set_tail(self, s: Settings, nodes: &[u32], levels: &[u32]) -> Moved
         requires { ⌜ Sized s ⌝ }
-        requires { ⌜ self .inner .count ≤ 8 ⌝ }
-        ensures { λ r. ⌜ Gives self s (memory (now (nodes .entry)) (now (levels .entry))) r (memory (now (nodes .entry)) (now (levels .entry))) (λ a os. tails s (self .head) (now (nodes .entry))) (λ a os. setTail 3 s (self .head) a os (memory (now (nodes .entry)) (now (levels .entry)))) ⌝ }
+        requires { ⌜ self .inner .count ≤ maxLimit ⌝ }
+        ensures { λ r. ⌜ Gives self s (memory (now (nodes .entry)) (now (levels .entry))) r (memory (now (nodes .entry)) (now (levels .entry))) (λ a os. tails s (self .head) (now (nodes .entry))) (λ a os. setTail (s .width) s (self .head) a os (memory (now (nodes .entry)) (now (levels .entry)))) ⌝ }
     {
         let h = self.head;
         let k = by_count(s, h.count, Kind::SetAppend, Kind::SetLevel, Kind::SetFollow);
@@ -656,14 +671,14 @@ impl Mover {
     // SetAppend: exchange R's next to N.
     pub fn set_append(self, s: Settings, nodes: &mut [u32], levels: &mut [u32]) -> Moved
         requires { ⌜ Sized s ⌝ }
-        requires { ⌜ self .inner .count ≤ 8 ⌝ }
-        ensures { λ r. ⌜ Gives self s (memory (now (nodes .entry)) (now (levels .entry))) r (memory (now (nodes .exit)) (now (levels .exit))) (λ a os. setAppends 3 s (self .head) (lastNode a) (memory (now (nodes .entry)) (now (levels .entry)))) (λ a os. setAppend 3 s (self .head) a os (memory (now (nodes .entry)) (now (levels .entry)))) ⌝ }
+        requires { ⌜ self .inner .count ≤ maxLimit ⌝ }
+        ensures { λ r. ⌜ Gives self s (memory (now (nodes .entry)) (now (levels .entry))) r (memory (now (nodes .exit)) (now (levels .exit))) (λ a os. setAppends (s .width) s (self .head) (lastNode a) (memory (now (nodes .entry)) (now (levels .entry)))) (λ a os. setAppend (s .width) s (self .head) a os (memory (now (nodes .entry)) (now (levels .entry)))) ⌝ }
     {
         let h = self.head;
         let v = self.inner;
         if stands_setting(s, h, v.last) {
             let n = node_ref(v.last);
-            let word = exchange_from(h.level, Cell::Next(h.node), n, nodes, levels);
+            let word = exchange_from(s.width, h.level, Cell::Next(h.node), n, nodes, levels);
             self.append_met(s, word, levels)
         } else {
             self.refused(s)
@@ -673,12 +688,12 @@ impl Mover {
     // SetLevel: take a level for N.
     pub fn set_level(self, s: Settings, nodes: &[u32], levels: &mut [u32]) -> Moved
         requires { ⌜ Sized s ⌝ }
-        requires { ⌜ self .inner .count ≤ 8 ⌝ }
-        ensures { λ r. ⌜ Gives self s (memory (now (nodes .entry)) (now (levels .entry))) r (memory (now (nodes .entry)) (now (levels .exit))) (λ a os. takesLevel 3 s (self .head) (now (levels .entry))) (λ a os. setLevel 3 s (self .head) a os (memory (now (nodes .entry)) (now (levels .entry)))) ⌝ }
+        requires { ⌜ self .inner .count ≤ maxLimit ⌝ }
+        ensures { λ r. ⌜ Gives self s (memory (now (nodes .entry)) (now (levels .entry))) r (memory (now (nodes .entry)) (now (levels .exit))) (λ a os. takesLevel (s .width) s (self .head) (now (levels .entry))) (λ a os. setLevel (s .width) s (self .head) a os (memory (now (nodes .entry)) (now (levels .entry)))) ⌝ }
     {
         let h = self.head;
         if takes_level(s, h, levels) {
-            let g = take_level(s.levels_taken, h.held_level, h.level, levels);
+            let g = take_level(s.width, s.levels_taken, h.held_level, h.level, levels);
             let n = holding_level(Kind::SetClose, g + 1, h);
             self.stay(counted(s, h.held_level), n, self.inner)
         } else {
@@ -689,14 +704,14 @@ impl Mover {
     // SetClose: exchange R's next to the new level; done, a Move inside this Move begins.
     pub fn set_close(self, s: Settings, nodes: &mut [u32], levels: &mut [u32]) -> Moved
         requires { ⌜ Sized s ⌝ }
-        requires { ⌜ self .inner .count ≤ 8 ⌝ }
-        ensures { λ r. ⌜ Gives self s (memory (now (nodes .entry)) (now (levels .entry))) r (memory (now (nodes .exit)) (now (levels .exit))) (λ a os. setCloses 3 s (self .head) (a ∷ os) (memory (now (nodes .entry)) (now (levels .entry)))) (λ a os. setClose 3 s (self .head) a os (memory (now (nodes .entry)) (now (levels .entry)))) ⌝ }
+        requires { ⌜ self .inner .count ≤ maxLimit ⌝ }
+        ensures { λ r. ⌜ Gives self s (memory (now (nodes .entry)) (now (levels .entry))) r (memory (now (nodes .exit)) (now (levels .exit))) (λ a os. setCloses (s .width) s (self .head) (a ∷ os) (memory (now (nodes .entry)) (now (levels .entry)))) (λ a os. setClose (s .width) s (self .head) a os (memory (now (nodes .entry)) (now (levels .entry)))) ⌝ }
     {
         let h = self.head;
         if stands_with(s, h, h.held_level, s.levels_taken) {
-            if self.moves < Settings::MAX_MOVES {
+            if self.moves < last_depth(s.width) {
                 let g = level_ref(h.held_level - 1);
-                let word = exchange_from(h.level, Cell::Next(h.node), g, nodes, levels);
+                let word = exchange_from(s.width, h.level, Cell::Next(h.node), g, nodes, levels);
                 self.close_met(s, word, levels)
             } else {
                 self.close_no_room(s, nodes, levels)
@@ -709,8 +724,8 @@ impl Mover {
     // SetFollow: read R's next again.
     pub fn set_follow(self, s: Settings, nodes: &[u32], levels: &[u32]) -> Moved
         requires { ⌜ Sized s ⌝ }
-        requires { ⌜ self .inner .count ≤ 8 ⌝ }
-        ensures { λ r. ⌜ Gives self s (memory (now (nodes .entry)) (now (levels .entry))) r (memory (now (nodes .entry)) (now (levels .entry))) (λ a os. setFollows 3 s (self .head) (memory (now (nodes .entry)) (now (levels .entry)))) (λ a os. setFollow 3 s (self .head) a os (memory (now (nodes .entry)) (now (levels .entry)))) ⌝ }
+        requires { ⌜ self .inner .count ≤ maxLimit ⌝ }
+        ensures { λ r. ⌜ Gives self s (memory (now (nodes .entry)) (now (levels .entry))) r (memory (now (nodes .entry)) (now (levels .entry))) (λ a os. setFollows (s .width) s (self .head) (memory (now (nodes .entry)) (now (levels .entry)))) (λ a os. setFollow (s .width) s (self .head) a os (memory (now (nodes .entry)) (now (levels .entry)))) ⌝ }
     {
         let h = self.head;
         let word = next_at(nodes, h.node);
@@ -720,14 +735,14 @@ impl Mover {
     // MoveEnd: write the entry in H to G; this Move has ended.
     pub fn move_end(self, s: Settings, nodes: &mut [u32], levels: &mut [u32]) -> Moved
         requires { ⌜ Sized s ⌝ }
-        requires { ⌜ self .inner .count ≤ 8 ⌝ }
+        requires { ⌜ self .inner .count ≤ maxLimit ⌝ }
         requires { ⌜ 1 ≤ self .moves ⌝ }
-        ensures { λ r. ⌜ Gives self s (memory (now (nodes .entry)) (now (levels .entry))) r (memory (now (nodes .exit)) (now (levels .exit))) (λ a os. moveEnds 3 s a os (memory (now (nodes .entry)) (now (levels .entry)))) (λ a os. moveEnd 3 s (self .head) a os (memory (now (nodes .entry)) (now (levels .entry)))) ⌝ }
+        ensures { λ r. ⌜ Gives self s (memory (now (nodes .entry)) (now (levels .entry))) r (memory (now (nodes .exit)) (now (levels .exit))) (λ a os. moveEnds (s .width) s a os (memory (now (nodes .entry)) (now (levels .entry)))) (λ a os. moveEnd (s .width) s (self .head) a os (memory (now (nodes .entry)) (now (levels .entry)))) ⌝ }
     {
         let v = self.inner;
         if self.move_ends(s, nodes, levels) {
-            let x = self.home_cell(nodes, levels);
-            set_cell(x, level_ref(v.child), nodes, levels);
+            let x = self.home_cell(s.width, nodes, levels);
+            set_cell(s.width, x, level_ref(v.child), nodes, levels);
             self.end(s)
         } else {
             self.refused(s)
@@ -737,9 +752,9 @@ impl Mover {
     // One turn of a moving worker. A worker of another kind is refused by 6.
     pub fn turn(self, s: Settings, nodes: &mut [u32], levels: &mut [u32]) -> Moved
         requires { ⌜ Sized s ⌝ }
-        requires { ⌜ self .inner .count ≤ 8 ⌝ }
+        requires { ⌜ self .inner .count ≤ maxLimit ⌝ }
         requires { ⌜ 1 ≤ self .moves ⌝ }
-        ensures { λ r. ⌜ Gives self s (memory (now (nodes .entry)) (now (levels .entry))) r (memory (now (nodes .exit)) (now (levels .exit))) (λ a os. both (isMoving (self .head .kind)) (readsBy (self .head .kind) 3 s (self .head) (a ∷ os) (memory (now (nodes .entry)) (now (levels .entry))))) (λ a os. actBy (self .head .kind) 3 s (self .head) (a ∷ os) (memory (now (nodes .entry)) (now (levels .entry)))) ⌝ }
+        ensures { λ r. ⌜ Gives self s (memory (now (nodes .entry)) (now (levels .entry))) r (memory (now (nodes .exit)) (now (levels .exit))) (λ a os. both (isMoving (self .head .kind)) (readsBy (self .head .kind) (s .width) s (self .head) (a ∷ os) (memory (now (nodes .entry)) (now (levels .entry))))) (λ a os. actBy (self .head .kind) (s .width) s (self .head) (a ∷ os) (memory (now (nodes .entry)) (now (levels .entry)))) ⌝ }
     {
         let h = self.head;
         let k = h.kind;

@@ -12,7 +12,7 @@ use lib.Seq.{sets}
 use borrow.Author.Tests.{ltb-true, ltb-false}
 use Rattle.words.specs.Blocks.{cells}
 use Rattle.words.proofs.Blocks.{below-sets, above-sets}
-use Rattle.settings.specs.Sizes.{headWords, moveWords, maxMoves, workerWords}
+use Rattle.settings.specs.Sizes.{headWords, moveWords, mostMoves, workerWords}
 use Rattle.record.specs.Layout.{workerPlace}
 
 -- place k lies outside of the n places from place a on
@@ -43,26 +43,25 @@ cells-all l v p (suc n) h =
     rw (a, cells-all l v (suc p) n b)
 
 -- the head and the Moves have room in a worker's words
-pub room : (w : ℕ) → headWords + moveWords * maxMoves w ≤ workerWords w
-unfolding workerWords
-room w = omega arith
+pub room : headWords + moveWords * mostMoves ≤ workerWords
+room = omega arith
 
 -- the words of two workers lie apart
-pub place-next : (w : ℕ) {i n : ℕ} → i < n → workerWords w * i + workerWords w ≤ workerWords w * n
-place-next w {i} {n} h =
-    let a : workerWords w * suc i ≤ workerWords w * n = mul-le-mul-left (workerWords w) h in rw mul-suc at a
+pub place-next : {i n : ℕ} → i < n → workerWords * i + workerWords ≤ workerWords * n
+place-next {i} {n} h =
+    let a : workerWords * suc i ≤ workerWords * n = mul-le-mul-left (workerWords) h in rw mul-suc at a
 
-pub apart : (w i j k : ℕ) → (j ≡ i → ⊥) → k < workerWords w → Outside (workerPlace w i) (workerWords w) (workerPlace w j + k)
+pub apart : (i j k : ℕ) → (j ≡ i → ⊥) → k < workerWords → Outside (workerPlace i) (workerWords) (workerPlace j + k)
 unfolding workerPlace
-apart w i j k d h = go (ltb j i) refl
+apart i j k d h = go (ltb j i) refl
   where
-    go : (b : Bool) → ltb j i ≡ b → Outside (workerWords w * i) (workerWords w) (workerWords w * j + k)
+    go : (b : Bool) → ltb j i ≡ b → Outside (workerWords * i) (workerWords) (workerWords * j + k)
     go true t =
         let g : j < i = ltb-true _ _ t in
-        let a : workerWords w * j + workerWords w ≤ workerWords w * i = place-next w g in
+        let a : workerWords * j + workerWords ≤ workerWords * i = place-next g in
         before (omega arith)
     go false t =
         let g : i ≤ j = ltb-false _ _ t in
         let g′ : i < j = omega arith in
-        let a : workerWords w * i + workerWords w ≤ workerWords w * j = place-next w g′ in
+        let a : workerWords * i + workerWords ≤ workerWords * j = place-next g′ in
         after (omega arith)

@@ -9,17 +9,17 @@ use lib.ListN.{length, getD}
 use lib.Seq.{sets, length-sets}
 use Rattle.words.specs.Blocks.{cells}
 use Rattle.words.proofs.Blocks.{length-cells, getD-cells, read-back, read-before, below-sets, above-sets, sets-cells}
-use Rattle.settings.specs.Sizes.{headWords, moveWords, maxLimit, maxMoves, workerWords}
+use Rattle.settings.specs.Sizes.{headWords, moveWords, maxLimit, mostMoves, workerWords}
 use Rattle.record.specs.declared.Head.{Head}
 use Rattle.record.specs.declared.Move.{Move}
 use Rattle.record.specs.Layout.{headFrom, headList, workerPlace, movePlace, moveFrom, moveAt, firstMoves, storeHead, moveTo, storeMoves, newMove}
 use Rattle.record.proofs.Numbers.{kind-back}
 use Rattle.record.proofs.Apart.{Outside, before, after, sets-outside, cells-same, room}
 
-pub length-first : (w : ℕ) (l : List ℕ) (i n : ℕ) → length (firstMoves w l i n) ≡ n
+pub length-first : (l : List ℕ) (i n : ℕ) → length (firstMoves l i n) ≡ n
 unfolding firstMoves
-length-first w l i zero = refl
-length-first w l i (suc n) = ap suc (length-first w l i n)
+length-first l i zero = refl
+length-first l i (suc n) = ap suc (length-first l i n)
 
 -- Each Move of the list has a word for each place of a chain
 abbrev pub AllSized : List Move → Type 0
@@ -77,63 +77,63 @@ move-same l l′ p h =
 
 -- the Moves of worker i: how many words there are stays, what lies outside of the Moves' words stays, and they are there again
 module _ (w i : ℕ) where
-  pub length-storeMoves : (ms : List Move) (l : List ℕ) → length (storeMoves w ms i l) ≡ length l
+  pub length-storeMoves : (ms : List Move) (l : List ℕ) → length (storeMoves ms i l) ≡ length l
   unfolding storeMoves
   length-storeMoves [] l = refl
   length-storeMoves (m ∷ ms) l =
-      length-storeMoves ms (moveTo m (movePlace w i (length ms)) l) ∙ length-moveTo m (movePlace w i (length ms)) l
+      length-storeMoves ms (moveTo m (movePlace i (length ms)) l) ∙ length-moveTo m (movePlace i (length ms)) l
 
-  pub moves-before : (ms : List Move) (l : List ℕ) (k : ℕ) → k < workerPlace w i + headWords → getD (storeMoves w ms i l) k 0 ≡ getD l k 0
+  pub moves-before : (ms : List Move) (l : List ℕ) (k : ℕ) → k < workerPlace i + headWords → getD (storeMoves ms i l) k 0 ≡ getD l k 0
   unfolding storeMoves movePlace
   moves-before [] l k h = refl
-  moves-before (m ∷ ms) l k h = moves-before ms _ k h ∙ move-before m (movePlace w i (length ms)) l k (omega arith)
+  moves-before (m ∷ ms) l k h = moves-before ms _ k h ∙ move-before m (movePlace i (length ms)) l k (omega arith)
 
   pub moves-outside :
       (ms : List Move) (l : List ℕ) (k : ℕ)
-      → AllSized ms → Outside (workerPlace w i + headWords) (moveWords * length ms) k → getD (storeMoves w ms i l) k 0 ≡ getD l k 0
+      → AllSized ms → Outside (workerPlace i + headWords) (moveWords * length ms) k → getD (storeMoves ms i l) k 0 ≡ getD l k 0
   unfolding storeMoves movePlace
   moves-outside ms l k s (before h) = moves-before ms l k h
   moves-outside [] l k s (after h) = refl
   moves-outside (m ∷ ms) l k (e, s) (after h) =
-      moves-outside ms (moveTo m (movePlace w i (length ms)) l) k s (after (omega arith))
-      ∙ move-outside m (movePlace w i (length ms)) l k e (after (omega arith))
+      moves-outside ms (moveTo m (movePlace i (length ms)) l) k s (after (omega arith))
+      ∙ move-outside m (movePlace i (length ms)) l k e (after (omega arith))
 
   pub moves-back :
       (ms : List Move) (l : List ℕ)
-      → AllSized ms → workerPlace w i + headWords + moveWords * length ms ≤ length l → firstMoves w (storeMoves w ms i l) i (length ms) ≡ ms
+      → AllSized ms → workerPlace i + headWords + moveWords * length ms ≤ length l → firstMoves (storeMoves ms i l) i (length ms) ≡ ms
   unfolding storeMoves firstMoves moveAt movePlace
   moves-back [] l s h = refl
   moves-back (m ∷ ms) l (e, s) h =
-      let p : ℕ = movePlace w i (length ms) in
+      let p : ℕ = movePlace i (length ms) in
       let l₁ : List ℕ = moveTo m p l in
       let n : length l₁ ≡ length l = length-moveTo m p l in
-      let a : moveFrom (storeMoves w ms i l₁) p ≡ moveFrom l₁ p =
-      move-same (storeMoves w ms i l₁) l₁ p (λ k g. moves-outside ms l₁ (p + k) s (after (omega arith)))
+      let a : moveFrom (storeMoves ms i l₁) p ≡ moveFrom l₁ p =
+      move-same (storeMoves ms i l₁) l₁ p (λ k g. moves-outside ms l₁ (p + k) s (after (omega arith)))
       in
       let b : moveFrom l₁ p ≡ m = move-back m p l e (omega arith) in
       rw (a, b, moves-back ms l₁ s (omega arith))
 
 -- two lists that agree in the words of worker i have the same first Moves there
 pub first-same :
-    (w : ℕ) (l l′ : List ℕ) (i : ℕ) → ((k : ℕ) → k < workerWords w → getD l (workerPlace w i + k) 0 ≡ getD l′ (workerPlace w i + k) 0)
-    → (n : ℕ) → n ≤ maxMoves w → firstMoves w l i n ≡ firstMoves w l′ i n
+    (l l′ : List ℕ) (i : ℕ) → ((k : ℕ) → k < workerWords → getD l (workerPlace i + k) 0 ≡ getD l′ (workerPlace i + k) 0)
+    → (n : ℕ) → n ≤ mostMoves → firstMoves l i n ≡ firstMoves l′ i n
 unfolding firstMoves moveAt movePlace
-first-same w l l′ i h zero g = refl
-first-same w l l′ i h (suc n) g =
-    let b : headWords + moveWords * maxMoves w ≤ workerWords w = room w in
-    let p : ℕ = movePlace w i n in
+first-same l l′ i h zero g = refl
+first-same l l′ i h (suc n) g =
+    let b : headWords + moveWords * mostMoves ≤ workerWords = room in
+    let p : ℕ = movePlace i n in
     let a : moveFrom l p ≡ moveFrom l′ p =
     move-same l l′ p (λ k q.
-    let e : p + k ≡ workerPlace w i + (headWords + moveWords * n + k) = omega arith in
+    let e : p + k ≡ workerPlace i + (headWords + moveWords * n + k) = omega arith in
     rw e (h (headWords + moveWords * n + k) (omega arith)))
     in
-    rw (a, first-same w l l′ i h n (omega arith))
+    rw (a, first-same l l′ i h n (omega arith))
 
 -- Moves that were read, and one that has remembered nothing, have a word for each place of a chain
-pub first-sized : (w : ℕ) (l : List ℕ) (i n : ℕ) → AllSized (firstMoves w l i n)
+pub first-sized : (l : List ℕ) (i n : ℕ) → AllSized (firstMoves l i n)
 unfolding firstMoves moveAt moveFrom
-first-sized w l i zero = tt
-first-sized w l i (suc n) = (length-cells l (movePlace w i n + 3) maxLimit, first-sized w l i n)
+first-sized l i zero = tt
+first-sized l i (suc n) = (length-cells l (movePlace i n + 3) maxLimit, first-sized l i n)
 
 pub new-sized : (home child : ℕ) → length (newMove home child .nodes) ≡ maxLimit
 unfolding newMove
@@ -153,19 +153,19 @@ pub count-of : (l : List ℕ) (p : ℕ) (h : Head) (m : ℕ) → cells l p 10 �
 unfolding headList
 count-of l p h m e = sym (getD-cells l p 10 9 (omega arith)) ∙ ap (λ (v : List ℕ). getD v 9 0) e
 
-pub length-storeHead : (w : ℕ) (h : Head) (m i : ℕ) (l : List ℕ) → length (storeHead w h m i l) ≡ length l
+pub length-storeHead : (h : Head) (m i : ℕ) (l : List ℕ) → length (storeHead h m i l) ≡ length l
 unfolding storeHead
-length-storeHead w h m i l = length-sets l (workerPlace w i) (headList h m)
+length-storeHead h m i l = length-sets l (workerPlace i) (headList h m)
 
 pub head-back :
-    (w : ℕ) (h : Head) (m i : ℕ) (l : List ℕ) → workerPlace w i + 10 ≤ length l → cells (storeHead w h m i l) (workerPlace w i) 10 ≡ headList h m
+    (h : Head) (m i : ℕ) (l : List ℕ) → workerPlace i + 10 ≤ length l → cells (storeHead h m i l) (workerPlace i) 10 ≡ headList h m
 unfolding storeHead headList
-head-back w h m i l g = read-back (headList h m) l (workerPlace w i) g
+head-back h m i l g = read-back (headList h m) l (workerPlace i) g
 
 pub head-outside :
-    (w : ℕ) (h : Head) (m i : ℕ) (l : List ℕ) (k : ℕ) → Outside (workerPlace w i) 10 k → getD (storeHead w h m i l) k 0 ≡ getD l k 0
+    (h : Head) (m i : ℕ) (l : List ℕ) (k : ℕ) → Outside (workerPlace i) 10 k → getD (storeHead h m i l) k 0 ≡ getD l k 0
 unfolding storeHead headList
-head-outside w h m i l k o = sets-outside (headList h m) l (workerPlace w i) k o
+head-outside h m i l k o = sets-outside (headList h m) l (workerPlace i) k o
 
 -- writing back what was read changes nothing
 pub move-kept : (l : List ℕ) (p : ℕ) → moveTo (moveFrom l p) p l ≡ l
@@ -178,9 +178,9 @@ move-kept l p =
     let b : sets l p f ≡ l = ap (λ (v : List ℕ). sets l p v) a ∙ sets-cells l p 3 in
     rw b (sets-cells l (p + 3) maxLimit)
 
-pub moves-kept : (w i : ℕ) (l : List ℕ) (n : ℕ) → storeMoves w (firstMoves w l i n) i l ≡ l
+pub moves-kept : (i : ℕ) (l : List ℕ) (n : ℕ) → storeMoves (firstMoves l i n) i l ≡ l
 unfolding storeMoves firstMoves moveAt
-moves-kept w i l zero = refl
-moves-kept w i l (suc n) =
-    let e : moveTo (moveAt w l i n) (movePlace w i (length (firstMoves w l i n))) l ≡ l = rw (length-first w l i n) (move-kept l (movePlace w i n)) in
-    ap (λ (v : List ℕ). storeMoves w (firstMoves w l i n) i v) e ∙ moves-kept w i l n
+moves-kept i l zero = refl
+moves-kept i l (suc n) =
+    let e : moveTo (moveAt l i n) (movePlace i (length (firstMoves l i n))) l ≡ l = rw (length-first l i n) (move-kept l (movePlace i n)) in
+    ap (λ (v : List ℕ). storeMoves (firstMoves l i n) i v) e ∙ moves-kept i l n

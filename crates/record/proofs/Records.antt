@@ -9,7 +9,7 @@ use lib.ListN.{length, getD, replicate}
 use Rattle.words.specs.Blocks.{cells}
 use Rattle.words.specs.Choice.{pick}
 use Rattle.words.proofs.Blocks.{getD-cells}
-use Rattle.settings.specs.Sizes.{headWords, moveWords, maxMoves, workerWords}
+use Rattle.settings.specs.Sizes.{headWords, moveWords, mostMoves, workerWords}
 use Rattle.settings.specs.declared.Settings.{Settings}
 use Rattle.record.specs.declared.Kind.the-variants.{Idle}
 use Rattle.record.specs.declared.Head.{Head}
@@ -20,85 +20,85 @@ use Rattle.record.proofs.Apart.{Outside, before, after, cells-same, cel
 use Rattle.record.proofs.Pieces.{AllSized, first-same, length-storeMoves, moves-before, moves-outside, moves-back, length-storeHead, head-back, head-outside, head-of, count-of}
 
 -- a record that a worker's words can hold
-pub record WellFormed (w : ℕ) (r : Record) : Type 0 where
+pub record WellFormed (r : Record) : Type 0 where
   pub sized : AllSized (r .moves)
-  pub few : length (r .moves) ≤ maxMoves w
+  pub few : length (r .moves) ≤ mostMoves
 
 -- the record of worker i
 module _ (w : ℕ) (r : Record) (i : ℕ) (l : List ℕ) where
   -- the number of words stays
-  pub length-store : length (store w r i l) ≡ length l
+  pub length-store : length (store r i l) ≡ length l
   unfolding store
   length-store =
-      length-storeMoves w i (r .moves) (storeHead w (r .head) (length (r .moves)) i l)
-      ∙ length-storeHead w (r .head) (length (r .moves)) i l
+      length-storeMoves w i (r .moves) (storeHead (r .head) (length (r .moves)) i l)
+      ∙ length-storeHead (r .head) (length (r .moves)) i l
 
   -- the ten words of the head are there, and so is the head
-  pub store-head : workerPlace w i + 10 ≤ length l → cells (store w r i l) (workerPlace w i) 10 ≡ headList (r .head) (length (r .moves))
+  pub store-head : workerPlace i + 10 ≤ length l → cells (store r i l) (workerPlace i) 10 ≡ headList (r .head) (length (r .moves))
   unfolding store
   store-head h =
-      let l₁ : List ℕ = storeHead w (r .head) (length (r .moves)) i l in
-      cells-same (storeMoves w (r .moves) i l₁) l₁ (workerPlace w i) 10
-      (λ k g. moves-before w i (r .moves) l₁ (workerPlace w i + k) (omega arith))
-      ∙ head-back w (r .head) (length (r .moves)) i l h
+      let l₁ : List ℕ = storeHead (r .head) (length (r .moves)) i l in
+      cells-same (storeMoves (r .moves) i l₁) l₁ (workerPlace i) 10
+      (λ k g. moves-before w i (r .moves) l₁ (workerPlace i + k) (omega arith))
+      ∙ head-back (r .head) (length (r .moves)) i l h
 
-  pub head-stored : workerPlace w i + 10 ≤ length l → headAt w (store w r i l) i ≡ r .head
+  pub head-stored : workerPlace i + 10 ≤ length l → headAt (store r i l) i ≡ r .head
   unfolding headAt
-  head-stored h = head-of (store w r i l) (workerPlace w i) (r .head) (length (r .moves)) (store-head h)
+  head-stored h = head-of (store r i l) (workerPlace i) (r .head) (length (r .moves)) (store-head h)
 
   -- what is stored is loaded again
-  pub load-store : WellFormed w r → workerWords w * i + workerWords w ≤ length l → load w (store w r i l) i ≡ r
+  pub load-store : WellFormed r → workerWords * i + workerWords ≤ length l → load (store r i l) i ≡ r
   unfolding load headAt movesAt store workerPlace
   load-store f h =
       let s : AllSized (r .moves) = f .sized in
-      let c : length (r .moves) ≤ maxMoves w = f .few in
-      let b : headWords + moveWords * maxMoves w ≤ workerWords w = room w in
-      let l₁ : List ℕ = storeHead w (r .head) (length (r .moves)) i l in
-      let n : length l₁ ≡ length l = length-storeHead w (r .head) (length (r .moves)) i l in
-      let t : cells (store w r i l) (workerPlace w i) 10 ≡ headList (r .head) (length (r .moves)) = store-head (omega arith) in
-      let m : getD (store w r i l) (workerPlace w i + 9) 0 ≡ length (r .moves) = count-of _ (workerPlace w i) (r .head) _ t in
-      let a : headAt w (store w r i l) i ≡ r .head = head-stored (omega arith) in
-      let q : firstMoves w (storeMoves w (r .moves) i l₁) i (length (r .moves)) ≡ r .moves = moves-back w i (r .moves) l₁ s (omega arith) in
+      let c : length (r .moves) ≤ mostMoves = f .few in
+      let b : headWords + moveWords * mostMoves ≤ workerWords = room in
+      let l₁ : List ℕ = storeHead (r .head) (length (r .moves)) i l in
+      let n : length l₁ ≡ length l = length-storeHead (r .head) (length (r .moves)) i l in
+      let t : cells (store r i l) (workerPlace i) 10 ≡ headList (r .head) (length (r .moves)) = store-head (omega arith) in
+      let m : getD (store r i l) (workerPlace i + 9) 0 ≡ length (r .moves) = count-of _ (workerPlace i) (r .head) _ t in
+      let a : headAt (store r i l) i ≡ r .head = head-stored (omega arith) in
+      let q : firstMoves (storeMoves (r .moves) i l₁) i (length (r .moves)) ≡ r .moves = moves-back w i (r .moves) l₁ s (omega arith) in
       rw (a, m, q)
 
   -- what lies outside of the worker's words stays
-  pub store-outside : WellFormed w r → (k : ℕ) → Outside (workerPlace w i) (workerWords w) k → getD (store w r i l) k 0 ≡ getD l k 0
+  pub store-outside : WellFormed r → (k : ℕ) → Outside (workerPlace i) (workerWords) k → getD (store r i l) k 0 ≡ getD l k 0
   unfolding store
   store-outside f k (before h) =
-      moves-outside w i (r .moves) (storeHead w (r .head) (length (r .moves)) i l) k (f .sized) (before (omega arith))
-      ∙ head-outside w (r .head) (length (r .moves)) i l k (before h)
+      moves-outside w i (r .moves) (storeHead (r .head) (length (r .moves)) i l) k (f .sized) (before (omega arith))
+      ∙ head-outside (r .head) (length (r .moves)) i l k (before h)
   store-outside f k (after h) =
-      let c : length (r .moves) ≤ maxMoves w = f .few in
-      let b : headWords + moveWords * maxMoves w ≤ workerWords w = room w in
-      moves-outside w i (r .moves) (storeHead w (r .head) (length (r .moves)) i l) k (f .sized) (after (omega arith))
-      ∙ head-outside w (r .head) (length (r .moves)) i l k (after (omega arith))
+      let c : length (r .moves) ≤ mostMoves = f .few in
+      let b : headWords + moveWords * mostMoves ≤ workerWords = room in
+      moves-outside w i (r .moves) (storeHead (r .head) (length (r .moves)) i l) k (f .sized) (after (omega arith))
+      ∙ head-outside (r .head) (length (r .moves)) i l k (after (omega arith))
 
 -- two lists that agree in the words of worker i have the same record there
 pub load-same :
-    (w : ℕ) (l l′ : List ℕ) (i : ℕ) → ((k : ℕ) → k < workerWords w → getD l (workerPlace w i + k) 0 ≡ getD l′ (workerPlace w i + k) 0)
-    → movesAt w l′ i ≤ maxMoves w → load w l i ≡ load w l′ i
+    (l l′ : List ℕ) (i : ℕ) → ((k : ℕ) → k < workerWords → getD l (workerPlace i + k) 0 ≡ getD l′ (workerPlace i + k) 0)
+    → movesAt l′ i ≤ mostMoves → load l i ≡ load l′ i
 unfolding load headAt movesAt
-load-same w l l′ i h g =
-    let b : headWords + moveWords * maxMoves w ≤ workerWords w = room w in
-    let c : cells l (workerPlace w i) 9 ≡ cells l′ (workerPlace w i) 9 = cells-same l l′ (workerPlace w i) 9 (λ k q. h k (omega arith)) in
-    let m : getD l (workerPlace w i + 9) 0 ≡ getD l′ (workerPlace w i + 9) 0 = h 9 (omega arith) in
-    rw (c, m, first-same w l l′ i h _ g)
+load-same l l′ i h g =
+    let b : headWords + moveWords * mostMoves ≤ workerWords = room in
+    let c : cells l (workerPlace i) 9 ≡ cells l′ (workerPlace i) 9 = cells-same l l′ (workerPlace i) 9 (λ k q. h k (omega arith)) in
+    let m : getD l (workerPlace i + 9) 0 ≡ getD l′ (workerPlace i + 9) 0 = h 9 (omega arith) in
+    rw (c, m, first-same l l′ i h _ g)
 
 -- storing the record of worker i leaves the words and the record of worker j
 module _ (w : ℕ) (r : Record) (i j : ℕ) (l : List ℕ) where
   pub store-other :
-      WellFormed w r → (j ≡ i → ⊥) → (k : ℕ) → k < workerWords w → getD (store w r i l) (workerWords w * j + k) 0 ≡ getD l (workerWords w * j + k) 0
+      WellFormed r → (j ≡ i → ⊥) → (k : ℕ) → k < workerWords → getD (store r i l) (workerWords * j + k) 0 ≡ getD l (workerWords * j + k) 0
   unfolding workerPlace
-  store-other f d k h = store-outside w r i l f (workerPlace w j + k) (apart w i j k d h)
+  store-other f d k h = store-outside w r i l f (workerPlace j + k) (apart i j k d h)
 
-  pub load-other : WellFormed w r → (j ≡ i → ⊥) → movesAt w l j ≤ maxMoves w → load w (store w r i l) j ≡ load w l j
+  pub load-other : WellFormed r → (j ≡ i → ⊥) → movesAt l j ≤ mostMoves → load (store r i l) j ≡ load l j
   load-other f d g =
-      load-same w (store w r i l) l j (λ k h. store-outside w r i l f (workerPlace w j + k) (apart w i j k d h)) g
+      load-same (store r i l) l j (λ k h. store-outside w r i l f (workerPlace j + k) (apart i j k d h)) g
 
 -- a record with no Moves is stored by its head alone
-pub store-none : (w : ℕ) (h : Head) (i : ℕ) (l : List ℕ) → store w (record′ h []) i l ≡ storeHead w h 0 i l
+pub store-none : (h : Head) (i : ℕ) (l : List ℕ) → store (record′ h []) i l ≡ storeHead h 0 i l
 unfolding store storeMoves
-store-none w h i l = refl
+store-none h i l = refl
 
 -- the record whose words are all 0: idle, no answer yet, nothing held
 abbrev pub idle : Record
@@ -107,20 +107,20 @@ idle =
     (record { kind = Idle; pixel = 0; level = 0; node = 0; count = 0; «held_node» = 0; «held_level» = 0; answer = 0; «answer_node» = 0 })
     []
 
-pub zero-idle : (w : ℕ) (l : List ℕ) (i : ℕ) → cells l (workerPlace w i) 10 ≡ replicate 10 0 → load w l i ≡ idle
+pub zero-idle : (l : List ℕ) (i : ℕ) → cells l (workerPlace i) 10 ≡ replicate 10 0 → load l i ≡ idle
 unfolding load headAt movesAt firstMoves headFrom kindOf kinds cells
-zero-idle w l i e =
-    let a : headFrom (cells l (workerPlace w i) 9) ≡ headFrom (cells l (workerPlace w i) 10) = refl in
-    let b : headFrom (cells l (workerPlace w i) 9) ≡ idle .head = a ∙ ap headFrom e in
-    let m : getD l (workerPlace w i + 9) 0 ≡ 0 = sym (getD-cells l (workerPlace w i) 10 9 (omega arith)) ∙ ap (λ (v : List ℕ). getD v 9 0) e in
+zero-idle l i e =
+    let a : headFrom (cells l (workerPlace i) 9) ≡ headFrom (cells l (workerPlace i) 10) = refl in
+    let b : headFrom (cells l (workerPlace i) 9) ≡ idle .head = a ∙ ap headFrom e in
+    let m : getD l (workerPlace i + 9) 0 ≡ 0 = sym (getD-cells l (workerPlace i) 10 9 (omega arith)) ∙ ap (λ (v : List ℕ). getD v 9 0) e in
     rw (b, m)
 
-pub zero-words : (w : ℕ) (l : List ℕ) (i : ℕ) → ((k : ℕ) → k < 10 → getD l (workerPlace w i + k) 0 ≡ 0) → load w l i ≡ idle
-zero-words w l i h = zero-idle w l i (cells-all l 0 (workerPlace w i) 10 h)
+pub zero-words : (l : List ℕ) (i : ℕ) → ((k : ℕ) → k < 10 → getD l (workerPlace i + k) 0 ≡ 0) → load l i ≡ idle
+zero-words l i h = zero-idle l i (cells-all l 0 (workerPlace i) 10 h)
 
 pub idle-fits : (w : ℕ) (s : Settings) → fits w s idle ≡ true
 unfolding fits fitsBy pick kindNo
 idle-fits w s = refl
 
-pub zero-fits : (w : ℕ) (s : Settings) (l : List ℕ) (i : ℕ) → cells l (workerPlace w i) 10 ≡ replicate 10 0 → fits w s (load w l i) ≡ true
-zero-fits w s l i e = ap (λ (r : Record). fits w s r) (zero-idle w l i e) ∙ idle-fits w s
+pub zero-fits : (w : ℕ) (s : Settings) (l : List ℕ) (i : ℕ) → cells l (workerPlace i) 10 ≡ replicate 10 0 → fits w s (load l i) ≡ true
+zero-fits w s l i e = ap (λ (r : Record). fits w s r) (zero-idle l i e) ∙ idle-fits w s

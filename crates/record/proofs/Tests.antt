@@ -11,6 +11,7 @@ use lib.Dec.{leb, eqb}
 use borrow.Author.Tests.{ne-eqb, le-leb, lt-leb}
 use Rattle.words.specs.Choice.{pick, both, every}
 use Rattle.words.specs.Digits.{maxPixel}
+use Rattle.words.specs.Digits.{depths}
 use Rattle.settings.specs.Sizes.{maxMoves, within}
 use Rattle.settings.specs.declared.Settings.{Settings}
 use Rattle.record.specs.declared.Head.{Head}
@@ -49,66 +50,66 @@ module _ (s : Settings) (k : ℕ) where
 
 -- outer_fit: no Move yet, one more, and all
 module _ (w : ℕ) (s : Settings) (l : List ℕ) (i : ℕ) where
-  pub outer-none : true ≡ every (outerFits s) (firstMoves w l i 0)
+  pub outer-none : true ≡ every (outerFits s) (firstMoves l i 0)
   unfolding every firstMoves
   outer-none = refl
 
   pub outer-more :
       (j : ℕ) {b x y : Bool} {c : ℕ}
-      → b ≡ both x y → x ≡ within c (s .limit) → c ≡ moveAt w l i j .count → y ≡ every (outerFits s) (firstMoves w l i j)
-      → b ≡ every (outerFits s) (firstMoves w l i (j + 1))
+      → b ≡ both x y → x ≡ within c (s .limit) → c ≡ moveAt l i j .count → y ≡ every (outerFits s) (firstMoves l i j)
+      → b ≡ every (outerFits s) (firstMoves l i (j + 1))
   unfolding every outerFits firstMoves
   outer-more j a b c d = rw add-one (simp (a, b, c, d))
 
   pub outer-all :
-      (j n : ℕ) {b : Bool} → b ≡ every (outerFits s) (firstMoves w l i j) → j ≤ n → n ≤ j → b ≡ every (outerFits s) (firstMoves w l i n)
+      (j n : ℕ) {b : Bool} → b ≡ every (outerFits s) (firstMoves l i j) → j ≤ n → n ≤ j → b ≡ every (outerFits s) (firstMoves l i n)
   outer-all j n a h h′ = let e : j ≡ n = omega arith in rw e at a
 
 module _ (w : ℕ) (s : Settings) (k : ℕ) (l : List ℕ) (i : ℕ) where
-  pub moves-none : (n : ℕ) → n ≡ 0 → false ≡ movesFit s k (firstMoves w l i n)
+  pub moves-none : (n : ℕ) → n ≡ 0 → false ≡ movesFit s k (firstMoves l i n)
   unfolding movesFit firstMoves
   moves-none n e = simp e
 
   pub moves-some :
       (n : ℕ) {b x y : Bool} {c : ℕ}
-      → b ≡ both x y → y ≡ every (outerFits s) (firstMoves w l i (n - 1)) → x ≡ innerFits s k c → c ≡ moveAt w l i (n - 1) .count → (n ≡ 0 → ⊥)
-      → b ≡ movesFit s k (firstMoves w l i n)
+      → b ≡ both x y → y ≡ every (outerFits s) (firstMoves l i (n - 1)) → x ≡ innerFits s k c → c ≡ moveAt l i (n - 1) .count → (n ≡ 0 → ⊥)
+      → b ≡ movesFit s k (firstMoves l i n)
   unfolding movesFit firstMoves
   moves-some zero a b c d e = absurd (e refl)
   moves-some (suc n) a b c d e = let m : suc n - 1 ≡ n = omega arith in simp (a, b, c, d, m)
 
   pub moving-some :
-      (n : ℕ) {b : Bool} → b ≡ movesFit s k (firstMoves w l i n) → leb n (maxMoves w) ≡ true → b ≡ movingFits w s k (firstMoves w l i n)
-  unfolding movingFits pick
-  moving-some n a t = rw length-first (simp (t, a))
+      (n : ℕ) {b : Bool} {d : ℕ} → b ≡ movesFit s k (firstMoves l i n) → leb n d ≡ true → d ≡ depths w - 1 → b ≡ movingFits w s k (firstMoves l i n)
+  unfolding movingFits maxMoves pick
+  moving-some n a t e = rw length-first (simp (← e, t, a))
 
-  pub moving-many : (n : ℕ) → leb n (maxMoves w) ≡ false → false ≡ movingFits w s k (firstMoves w l i n)
-  unfolding movingFits pick
-  moving-many n t = rw length-first (simp t)
+  pub moving-many : (n : ℕ) {d : ℕ} → leb n d ≡ false → d ≡ depths w - 1 → false ≡ movingFits w s k (firstMoves l i n)
+  unfolding movingFits maxMoves pick
+  moving-many n t e = rw length-first (simp (← e, t))
 
 -- search_fits, move_fits and fits: the head h of worker i, with the number k of its kind
 module _ (w : ℕ) (s : Settings) (l : List ℕ) (i : ℕ) {k : ℕ} {h : Head} where
   pub fits-search :
       {b x y : Bool} {m : ℕ}
-      → b ≡ both x y → y ≡ eqb m 0 → m ≡ movesAt w l i → x ≡ callFits s k h → k ≡ kindNo (h .kind) → h ≡ headAt w l i → 1 ≤ kindNo (h .kind) → kindNo (h .kind) ≤ 10
-      → b ≡ fits w s (load w l i)
+      → b ≡ both x y → y ≡ eqb m 0 → m ≡ movesAt l i → x ≡ callFits s k h → k ≡ kindNo (h .kind) → h ≡ headAt l i → 1 ≤ kindNo (h .kind) → kindNo (h .kind) ≤ 10
+      → b ≡ fits w s (load l i)
   unfolding fits fitsBy load pick
   fits-search a b m c e f low high =
       simp (a, b, m, c, ← f, ← e, ne-eqb k 0 (λ z. omega arith), le-leb k 10 (omega arith), length-first)
 
   pub fits-move :
       {b x y : Bool} {m : ℕ}
-      → b ≡ both x y → y ≡ movingFits w s k (firstMoves w l i m) → x ≡ callFits s k h → leb k 22 ≡ true → m ≡ movesAt w l i → k ≡ kindNo (h .kind) → h ≡ headAt w l i → 11 ≤ kindNo (h .kind)
-      → b ≡ fits w s (load w l i)
+      → b ≡ both x y → y ≡ movingFits w s k (firstMoves l i m) → x ≡ callFits s k h → leb k 22 ≡ true → m ≡ movesAt l i → k ≡ kindNo (h .kind) → h ≡ headAt l i → 11 ≤ kindNo (h .kind)
+      → b ≡ fits w s (load l i)
   unfolding fits fitsBy load pick
   fits-move a b c t m e f low =
       simp (a, b, c, ← m, ← f, ← e, ne-eqb k 0 (λ z. omega arith), lt-leb k 10 (omega arith), t)
 
-  pub fits-unknown : leb k 22 ≡ false → k ≡ kindNo (h .kind) → h ≡ headAt w l i → 11 ≤ kindNo (h .kind) → false ≡ fits w s (load w l i)
+  pub fits-unknown : leb k 22 ≡ false → k ≡ kindNo (h .kind) → h ≡ headAt l i → 11 ≤ kindNo (h .kind) → false ≡ fits w s (load l i)
   unfolding fits fitsBy load pick
   fits-unknown t e f low = simp (← f, ← e, ne-eqb k 0 (λ z. omega arith), lt-leb k 10 (omega arith), t)
 
-  pub fits-idle : {b : Bool} → b ≡ leb (h .answer) 3 → eqb k 0 ≡ true → k ≡ kindNo (h .kind) → h ≡ headAt w l i → b ≡ fits w s (load w l i)
+  pub fits-idle : {b : Bool} → b ≡ leb (h .answer) 3 → eqb k 0 ≡ true → k ≡ kindNo (h .kind) → h ≡ headAt l i → b ≡ fits w s (load l i)
   unfolding fits fitsBy load pick
   fits-idle a t b c = simp (a, ← c, ← b, t)
 

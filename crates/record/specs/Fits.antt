@@ -39,7 +39,7 @@ unfoldable pub movesFit : Settings → ℕ → List Move → Bool
 movesFit s k [] = false
 movesFit s k (m ∷ ms) = both (innerFits s k (m .count)) (every (outerFits s) ms)
 
--- a moving worker's Moves: "Moves one inside another at most 7", "the moved chain at most the chain limit"
+-- a moving worker's Moves: "Moves one inside another at most 7" (the last depth), "the moved chain at most the chain limit"
 unfoldable pub movingFits : ℕ → Settings → ℕ → List Move → Bool
 movingFits w s k ms = pick (leb (length ms) (maxMoves w)) (movesFit s k ms) false
 

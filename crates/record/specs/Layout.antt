@@ -40,54 +40,54 @@ headList h m =
     kindNo (h .kind) ∷ h .pixel ∷ h .level ∷ h .node ∷ h .count ∷ h .«held_node» ∷ h .«held_level» ∷ h .answer ∷ h .«answer_node» ∷ m ∷ []
 
 -- the first word of worker i
-unfoldable pub workerPlace : ℕ → ℕ → ℕ
-workerPlace w i = workerWords w * i
+unfoldable pub workerPlace : ℕ → ℕ
+workerPlace i = workerWords * i
 
 -- the first word of Move j of worker i, the outermost Move being 0
-unfoldable pub movePlace : ℕ → ℕ → ℕ → ℕ
-movePlace w i j = workerPlace w i + headWords + moveWords * j
+unfoldable pub movePlace : ℕ → ℕ → ℕ
+movePlace i j = workerPlace i + headWords + moveWords * j
 
 -- the head of worker i
-unfoldable pub headAt : ℕ → List ℕ → ℕ → Head
-headAt w l i = headFrom (cells l (workerPlace w i) 9)
+unfoldable pub headAt : List ℕ → ℕ → Head
+headAt l i = headFrom (cells l (workerPlace i) 9)
 
 -- the number of Moves
-unfoldable pub movesAt : ℕ → List ℕ → ℕ → ℕ
-movesAt w l i = getD l (workerPlace w i + 9) 0
+unfoldable pub movesAt : List ℕ → ℕ → ℕ
+movesAt l i = getD l (workerPlace i + 9) 0
 
 -- the Move at place p: the level whose chain moves, the level it moves to, the number of nodes remembered, a word for each of them
 unfoldable pub moveFrom : List ℕ → ℕ → Move
 moveFrom l p = record { home = getD l p 0; child = getD l (p + 1) 0; count = getD l (p + 2) 0; nodes = cells l (p + 3) maxLimit }
 
 -- Move j of worker i, from 0, the outermost
-unfoldable pub moveAt : ℕ → List ℕ → ℕ → ℕ → Move
-moveAt w l i j = moveFrom l (movePlace w i j)
+unfoldable pub moveAt : List ℕ → ℕ → ℕ → Move
+moveAt l i j = moveFrom l (movePlace i j)
 
 -- the first n Moves, the last of them first
-unfoldable pub firstMoves : ℕ → List ℕ → ℕ → ℕ → List Move
-firstMoves w l i zero = []
-firstMoves w l i (suc j) = moveAt w l i j ∷ firstMoves w l i j
+unfoldable pub firstMoves : List ℕ → ℕ → ℕ → List Move
+firstMoves l i zero = []
+firstMoves l i (suc j) = moveAt l i j ∷ firstMoves l i j
 
 -- the record of worker i in the workers' words
-unfoldable pub load : ℕ → List ℕ → ℕ → Record
-load w l i = record′ (headAt w l i) (firstMoves w l i (movesAt w l i))
+unfoldable pub load : List ℕ → ℕ → Record
+load l i = record′ (headAt l i) (firstMoves l i (movesAt l i))
 
 -- the head and the number of Moves are written
-unfoldable pub storeHead : ℕ → Head → ℕ → ℕ → List ℕ → List ℕ
-storeHead w h m i l = sets l (workerPlace w i) (headList h m)
+unfoldable pub storeHead : Head → ℕ → ℕ → List ℕ → List ℕ
+storeHead h m i l = sets l (workerPlace i) (headList h m)
 
 -- a Move is written from word p on
 unfoldable pub moveTo : Move → ℕ → List ℕ → List ℕ
 moveTo m p l = sets (sets l p (m .home ∷ m .child ∷ m .count ∷ [])) (p + 3) (m .nodes)
 
 -- the Moves are written, the innermost first
-unfoldable pub storeMoves : ℕ → List Move → ℕ → List ℕ → List ℕ
-storeMoves w [] i l = l
-storeMoves w (m ∷ ms) i l = storeMoves w ms i (moveTo m (movePlace w i (length ms)) l)
+unfoldable pub storeMoves : List Move → ℕ → List ℕ → List ℕ
+storeMoves [] i l = l
+storeMoves (m ∷ ms) i l = storeMoves ms i (moveTo m (movePlace i (length ms)) l)
 
 -- the workers' words with the record of worker i; every other word stays
-unfoldable pub store : ℕ → Record → ℕ → List ℕ → List ℕ
-store w r i l = storeMoves w (r .moves) i (storeHead w (r .head) (length (r .moves)) i l)
+unfoldable pub store : Record → ℕ → List ℕ → List ℕ
+store r i l = storeMoves (r .moves) i (storeHead (r .head) (length (r .moves)) i l)
 
 -- a Move that has remembered nothing
 unfoldable pub newMove : ℕ → ℕ → Move

@@ -5,11 +5,13 @@ ghost use Prim.Native.Nat.{_+_, _*_, _≤_};
 ghost use lib.Dec.{leb, eqb};
 ghost use lib.ListN.{length};
 ghost use Rattle.words.specs.Choice.{every};
-ghost use Rattle.settings.specs.Sizes.{within};
+ghost use Rattle.settings.specs.Sizes.{maxLimit, workerWords, within};
+ghost use Rattle.words.specs.Digits.{DigitWidth};
 ghost use Rattle.record.specs.Kinds.{kindOf, kindNo, answerOf};
 ghost use Rattle.record.specs.Layout.{workerPlace, movePlace, headFrom, headList, headAt, movesAt, moveAt, firstMoves, load, storeHead, moveTo, newMove};
 ghost use Rattle.record.specs.Fits.{onChain, hasNode, callFits, innerFits, outerFits, movesFit, movingFits, fits};
 use settings::Settings;
+use settings::last_depth;
 use settings::within;
 use words::and;
 use words::at;
@@ -167,42 +169,42 @@ pub fn answer_of(code: u32, node: u32) -> Answer
 
 // The first word of worker i.
 pub fn worker_place(i: u32) -> usize
-    ensures { λ r. ⌜ (r ≡ workerPlace 3 i) × (r ≤ 549755813760) ⌝ }
+    ensures { λ r. ⌜ (r ≡ workerPlace i) × (r ≤ 1099511627520) ⌝ }
 {
     (Settings::WORKER_WORDS as usize) * (i as usize)
 }
 
 // The first word of Move j of worker i.
 pub fn move_place(i: u32, j: u32) -> usize
-    ensures { λ r. ⌜ (r ≡ movePlace 3 i j) × (r ≤ 600000000000) ⌝ }
+    ensures { λ r. ⌜ (r ≡ movePlace i j) × (r ≤ 1200000000000) ⌝ }
 {
     worker_place(i) + 16 + 11 * (j as usize)
 }
 
 // The number of Moves of worker i.
 pub fn moves_at(words: &[u32], i: u32) -> u32
-    ensures { λ r. ⌜ r ≡ movesAt 3 (now (words .entry)) i ⌝ }
+    ensures { λ r. ⌜ r ≡ movesAt (now (words .entry)) i ⌝ }
 {
     at(words, worker_place(i) + 9)
 }
 
 // Worker i is idle, which its first word tells.
 pub fn idle_at(words: &[u32], i: u32) -> bool
-    ensures { λ r. ⌜ r ≡ eqb (kindNo (headAt 3 (now (words .entry)) i .kind)) 0 ⌝ }
+    ensures { λ r. ⌜ r ≡ eqb (kindNo (headAt (now (words .entry)) i .kind)) 0 ⌝ }
 {
     eq(at(words, worker_place(i)), 0)
 }
 
 // The number of worker i's last answer.
 pub fn answer_at(words: &[u32], i: u32) -> u32
-    ensures { λ r. ⌜ r ≡ headAt 3 (now (words .entry)) i .answer ⌝ }
+    ensures { λ r. ⌜ r ≡ headAt (now (words .entry)) i .answer ⌝ }
 {
     at(words, worker_place(i) + 7)
 }
 
 // The words of worker i are there. Who has tested it once reads and writes them without further tests.
 pub fn inside(words: &[u32], i: u32) -> bool
-    ensures { λ r. ⌜ r ≡ leb (128 * i + 128) (length (now (words .entry))) ⌝ }
+    ensures { λ r. ⌜ r ≡ leb (workerWords * i + workerWords) (length (now (words .entry))) ⌝ }
 {
     worker_place(i) + (Settings::WORKER_WORDS as usize) <= words.len()
 }
@@ -244,7 +246,7 @@ impl Head {
     }
 
     pub fn load(words: &[u32], i: u32) -> Head
-        ensures { λ r. ⌜ r ≡ headAt 3 (now (words .entry)) i ⌝ }
+        ensures { λ r. ⌜ r ≡ headAt (now (words .entry)) i ⌝ }
     {
         let mut b = [0u32; 9];
         copy_out(words, worker_place(i), &mut b);
@@ -252,7 +254,7 @@ impl Head {
     }
 
     pub fn store(self, moves: u32, words: &mut [u32], i: u32)
-        ensures { λ r. ⌜ now (words .exit) ≡ storeHead 3 self moves i (now (words .entry)) ⌝ }
+        ensures { λ r. ⌜ now (words .exit) ≡ storeHead self moves i (now (words .entry)) ⌝ }
     {
         let b = self.to_words(moves);
         copy_in(words, worker_place(i), &b);
@@ -272,7 +274,7 @@ impl Move {
     }
 
     pub fn store(self, words: &mut [u32], i: u32, j: u32)
-        ensures { λ r. ⌜ now (words .exit) ≡ moveTo self (movePlace 3 i j) (now (words .entry)) ⌝ }
+        ensures { λ r. ⌜ now (words .exit) ≡ moveTo self (movePlace i j) (now (words .entry)) ⌝ }
     {
         let p = move_place(i, j);
         let f = [self.home, self.child, self.count];
@@ -293,14 +295,14 @@ fn on_chain(k: u32) -> bool
 }
 
 fn count_fits(s: Settings, count: u32) -> bool
-    requires { ⌜ s .limit ≤ 8 ⌝ }
+    requires { ⌜ s .limit ≤ maxLimit ⌝ }
     ensures { λ r. ⌜ r ≡ within count (s .limit + 1) ⌝ }
 {
     within(count, s.limit + 1)
 }
 
 fn call_fits(s: Settings, k: u32, h: Head) -> bool
-    requires { ⌜ s .limit ≤ 8 ⌝ }
+    requires { ⌜ s .limit ≤ maxLimit ⌝ }
     ensures { λ r. ⌜ r ≡ callFits s k h ⌝ }
 {
     let p = le(h.pixel, Settings::MAX_PIXEL);
@@ -329,14 +331,14 @@ fn inner_fits(s: Settings, k: u32, count: u32) -> bool
 
 // The number of nodes that Move j of worker i remembers.
 fn move_count(words: &[u32], i: u32, j: u32) -> u32
-    ensures { λ r. ⌜ r ≡ moveAt 3 (now (words .entry)) i j .count ⌝ }
+    ensures { λ r. ⌜ r ≡ moveAt (now (words .entry)) i j .count ⌝ }
 {
     at(words, move_place(i, j) + 2)
 }
 
 // The first n Moves of worker i each remember a node, and at most the chain limit.
 fn outer_fit(s: Settings, words: &[u32], i: u32, n: u32) -> bool
-    ensures { λ r. ⌜ r ≡ every (outerFits s) (firstMoves 3 (now (words .entry)) i n) ⌝ }
+    ensures { λ r. ⌜ r ≡ every (outerFits s) (firstMoves (now (words .entry)) i n) ⌝ }
 {
     let mut ok = true;
     let mut j = 0;
@@ -348,7 +350,7 @@ fn outer_fit(s: Settings, words: &[u32], i: u32, n: u32) -> bool
 }
 
 fn moves_fit(s: Settings, k: u32, words: &[u32], i: u32, n: u32) -> bool
-    ensures { λ r. ⌜ r ≡ movesFit s k (firstMoves 3 (now (words .entry)) i n) ⌝ }
+    ensures { λ r. ⌜ r ≡ movesFit s k (firstMoves (now (words .entry)) i n) ⌝ }
 {
     if n == 0 {
         false
@@ -362,9 +364,10 @@ fn moves_fit(s: Settings, k: u32, words: &[u32], i: u32, n: u32) -> bool
 
 // A moving worker's Moves, given their number.
 fn moving_fits(s: Settings, k: u32, words: &[u32], i: u32, n: u32) -> bool
-    ensures { λ r. ⌜ r ≡ movingFits 3 s k (firstMoves 3 (now (words .entry)) i n) ⌝ }
+    requires { ⌜ DigitWidth (s .width) ⌝ }
+    ensures { λ r. ⌜ r ≡ movingFits (s .width) s k (firstMoves (now (words .entry)) i n) ⌝ }
 {
-    if n <= Settings::DEPTHS - 1 {
+    if n <= last_depth(s.width) {
         moves_fit(s, k, words, i, n)
     } else {
         false
@@ -373,11 +376,11 @@ fn moving_fits(s: Settings, k: u32, words: &[u32], i: u32, n: u32) -> bool
 
 // The record of worker i fits its layout, where its head h is that of a search.
 pub fn search_fits(s: Settings, h: Head, words: &[u32], i: u32) -> bool
-    requires { ⌜ s .limit ≤ 8 ⌝ }
-    requires { ⌜ h ≡ headAt 3 (now words) i ⌝ }
+    requires { ⌜ s .limit ≤ maxLimit ⌝ }
+    requires { ⌜ h ≡ headAt (now words) i ⌝ }
     requires { ⌜ 1 ≤ kindNo (h .kind) ⌝ }
     requires { ⌜ kindNo (h .kind) ≤ 10 ⌝ }
-    ensures { λ r. ⌜ r ≡ fits 3 s (load 3 (now (words .entry)) i) ⌝ }
+    ensures { λ r. ⌜ r ≡ fits (s .width) s (load (now (words .entry)) i) ⌝ }
 {
     let kind = h.kind;
     let k = kind_no(kind);
@@ -386,10 +389,11 @@ pub fn search_fits(s: Settings, h: Head, words: &[u32], i: u32) -> bool
 
 // The record of worker i fits its layout, where its head h is that of a Move or of no kind.
 pub fn move_fits(s: Settings, h: Head, words: &[u32], i: u32) -> bool
-    requires { ⌜ s .limit ≤ 8 ⌝ }
-    requires { ⌜ h ≡ headAt 3 (now words) i ⌝ }
+    requires { ⌜ DigitWidth (s .width) ⌝ }
+    requires { ⌜ s .limit ≤ maxLimit ⌝ }
+    requires { ⌜ h ≡ headAt (now words) i ⌝ }
     requires { ⌜ 11 ≤ kindNo (h .kind) ⌝ }
-    ensures { λ r. ⌜ r ≡ fits 3 s (load 3 (now (words .entry)) i) ⌝ }
+    ensures { λ r. ⌜ r ≡ fits (s .width) s (load (now (words .entry)) i) ⌝ }
 {
     let kind = h.kind;
     let k = kind_no(kind);
@@ -410,9 +414,10 @@ pub fn idle_fits(answer: u32) -> bool
 
 // The record of worker i with the head h fits its layout.
 pub fn fits(s: Settings, h: Head, words: &[u32], i: u32) -> bool
-    requires { ⌜ s .limit ≤ 8 ⌝ }
-    requires { ⌜ h ≡ headAt 3 (now words) i ⌝ }
-    ensures { λ r. ⌜ r ≡ fits 3 s (load 3 (now (words .entry)) i) ⌝ }
+    requires { ⌜ DigitWidth (s .width) ⌝ }
+    requires { ⌜ s .limit ≤ maxLimit ⌝ }
+    requires { ⌜ h ≡ headAt (now words) i ⌝ }
+    ensures { λ r. ⌜ r ≡ fits (s .width) s (load (now (words .entry)) i) ⌝ }
 {
     let kind = h.kind;
     let k = kind_no(kind);

@@ -103,8 +103,8 @@ module _ (w : ℕ) (s : Settings) (h : Head) (m : Memory) where
 pub one-access : (w : ℕ) → OneAccess w
 unfolding turn unlessRefused full taken act
 one-access w s i a =
-    let P : Result → Type 0 = λ r. Access w s (recordOf w a i .head) (memoryOf a) (r .reply .settings) (memoryOf (r .areas)) in
-    let h : Record = recordOf w a i in
+    let P : Result → Type 0 = λ r. Access w s (recordOf a i .head) (memoryOf a) (r .reply .settings) (memoryOf (r .areas)) in
+    let h : Record = recordOf a i in
     pick-both P _
     (λ e. access.none refl refl)
     (λ e. pick-both P _ (λ z. kind-by w s (h .head) (memoryOf a) (h .head .kind) (h .moves)) (λ z. access.none refl refl))

@@ -14,7 +14,7 @@ use Rattle.record.specs.declared.Answer.{Answer}
 use Rattle.record.specs.declared.Answer.the-variants.{Full, Open}
 use Rattle.rules.specs.Acts.{act}
 use Rattle.rules.specs.Asked.{question7, question8}
-use Rattle.rules.specs.Operations.{Result, recordOf, memoryOf, taken, full, turn}
+use Rattle.rules.specs.Operations.{AtWidth, Result, recordOf, memoryOf, taken, full, turn}
 use Rattle.rules.specs.Lists.{State, after}
 use Rattle.rules.specs.Calls.{Event, turns, happens, stateAfter, endingAnswer}
 use Rattle.rules.specs.Alone.{goesOn, runAlone, aloneTurns, turnsOf, EndsAlone, AloneStatement}
@@ -22,7 +22,7 @@ use Rattle.trie.proofs.Update.{upd, upd-same}
 use Rattle.trie.proofs.Weights.{places, visit, errand, errands, frame, stretch}
 use Rattle.trie.proofs.Measure.{measure, measure-lt}
 use Rattle.trie.proofs.Whole.{Worker}
-use Rattle.rules.proofs.Dims.{dims, Width, width-3}
+use Rattle.rules.proofs.Dims.{dims, Width}
 use Rattle.rules.proofs.Invariant.{WorldOf, Rowing, goes, ends-new, ends-found, TurnOk, Fine}
 use Rattle.rules.proofs.Idle.{acts-busy, busy-of}
 use Rattle.rules.proofs.AloneTurn.{TurnIs, carried, filled, turn-is, fine-taken}
@@ -31,7 +31,7 @@ use Rattle.rules.proofs.Refused.{refuses-opening}
 use Rattle.rules.proofs.Along.{Along}
 use Rattle.rules.proofs.Opened.{along-opened}
 use Rattle.rules.proofs.Sequence.{run-along}
-use Rattle.rules.proofs.Theorem.{opening-yes}
+use Rattle.rules.proofs.Theorem.{opening-yes, opened-width}
 
 module _ (w i : ℕ) where
   -- a turn that ends the call
@@ -65,7 +65,7 @@ module _ (w i : ℕ) where
   module _ (s₀ : Settings) (here : i < s₀ .workers) where
     -- from every state of the invariant in which the worker has a call open and less than n before it
     abbrev Ends : ℕ → Type 0
-    Ends n = (x : State) (W : WorldOf w s₀) (ws : ℕ → Worker) (F : Fine w s₀ x W ws) → question7 (recordOf w (x .areas) i) ≡ false → measure (levelCount w s₀) W (ws i .act) < n → EndsAlone w n i x
+    Ends n = (x : State) (W : WorldOf w s₀) (ws : ℕ → Worker) (F : Fine w s₀ x W ws) → question7 (recordOf (x .areas) i) ≡ false → measure (levelCount w s₀) W (ws i .act) < n → EndsAlone w n i x
 
     alone-ends : (n : ℕ) → Ends n
     unfolding taken full goesOn endingAnswer
@@ -75,7 +75,7 @@ module _ (w i : ℕ) where
         r : Result
         r = turn w (x .settings) i (x .areas)
 
-        on : Ends n → (K : TurnOk w s₀ W ws i (act w (x .settings) (recordOf w (x .areas) i) (memoryOf (x .areas)))) → r ≡ taken w (act w (x .settings) (recordOf w (x .areas) i) (memoryOf (x .areas))) i (x .areas .workers) → {v : Answer} → r .reply .answer ≡ v → Rowing W (K .world) (ws i) (K .worker) v → EndsAlone w (suc n) i x
+        on : Ends n → (K : TurnOk w s₀ W ws i (act w (x .settings) (recordOf (x .areas) i) (memoryOf (x .areas)))) → r ≡ taken (act w (x .settings) (recordOf (x .areas) i) (memoryOf (x .areas))) i (x .areas .workers) → {v : Answer} → r .reply .answer ≡ v → Rowing W (K .world) (ws i) (K .worker) v → EndsAlone w (suc n) i x
         on f K e a (goes E b z p q) =
             let F′ = subst (λ (u : Result). Fine w s₀ (after u) (K .world) (upd ws i (K .worker))) (sym e) (fine-taken F i here busy K) in
             let M = rw (upd-same ws i (K .worker)) at (F′ .records i here) in
@@ -105,19 +105,19 @@ unfolding aloneTurns stretch frame errands errand visit places
 turns-are w s = rw (add-one (levelCount w s), add-one (depths w), add-one (s .limit)) refl
 
 -- from every state of the invariant, within that number
-pub ends-from : {w : ℕ} {s₀ : Settings} {x : State} {W : WorldOf w s₀} {ws : ℕ → Worker} (F : Fine w s₀ x W ws) (i : ℕ) → i < s₀ .workers → question7 (recordOf w (x .areas) i) ≡ false → EndsAlone w (aloneTurns w s₀) i x
+pub ends-from : {w : ℕ} {s₀ : Settings} {x : State} {W : WorldOf w s₀} {ws : ℕ → Worker} (F : Fine w s₀ x W ws) (i : ℕ) → i < s₀ .workers → question7 (recordOf (x .areas) i) ≡ false → EndsAlone w (aloneTurns w s₀) i x
 ends-from {w} {s₀} F i h q = rw (turns-are w s₀) (alone-ends w i s₀ h _ _ _ _ F q (measure-lt (F .inv .structure) (levelCount w s₀) (F .inv .each i .acts)))
 
 -- from a state that holds what an opening leaves
-alone-of : {w : ℕ} {s₀ : Settings} {x : State} → Along w s₀ x 0 [] [] → (es : List Event) (i : ℕ) → i < s₀ .workers → question8 (recordOf w (stateAfter w es x .areas) i) ≡ true → EndsAlone w (aloneTurns w s₀) i (stateAfter w es x)
+alone-of : {w : ℕ} {s₀ : Settings} {x : State} → Along w s₀ x 0 [] [] → (es : List Event) (i : ℕ) → i < s₀ .workers → question8 (recordOf (stateAfter w es x .areas) i) ≡ true → EndsAlone w (aloneTurns w s₀) i (stateAfter w es x)
 alone-of {x = x} a es i h q = ends-from (run-along es x 0 [] [] a .along .fine) i h (busy-of _ q)
 
 -- over every width whose digits fit the pixel numbers
-pub alone : (w : ℕ) → Width w → AloneStatement w
+pub alone : (w : ℕ) → Width w → (s : Settings) → AloneStatement w s
 alone w width s a z =
     let y = refuses-opening w s a .numbered .carried .0 z in
     rw (opening-done w s a z) (alone-of (along-opened width s a (opening-yes w s a y .0) (opening-yes w s a y .1)))
 
--- document 01's table
-pub alone-3 : AloneStatement 3
-alone-3 = alone 3 width-3
+-- document 02's tables, each at the width that its settings give
+pub alone-all : AtWidth AloneStatement
+alone-all s a z = alone (s .width) (opened-width (s .width) s a z) s a z

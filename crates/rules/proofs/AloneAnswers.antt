@@ -15,7 +15,7 @@ use Rattle.record.specs.declared.Answer.{Answer}
 use Rattle.record.specs.declared.Answer.the-variants.{New, Full}
 use Rattle.rules.specs.Acts.{act}
 use Rattle.rules.specs.Asked.{question7}
-use Rattle.rules.specs.Operations.{Result, recordOf, memoryOf, taken, full, turn, start}
+use Rattle.rules.specs.Operations.{AtWidth, Result, recordOf, memoryOf, taken, full, turn, start}
 use Rattle.rules.specs.Lists.{State, after}
 use Rattle.rules.specs.Calls.{Call, Opened}
 use Rattle.rules.specs.Consequences.{Shown}
@@ -26,7 +26,7 @@ use Rattle.trie.proofs.Lists.{_∈_, ∈-last}
 use Rattle.trie.proofs.Measure.{measure, measure-lt}
 use Rattle.trie.proofs.Whole.{idle, Worker}
 use Rattle.rules.proofs.Invariant.{WorldOf, Rowing, goes, ends-new, ends-found, Held, TurnOk, Fine, at}
-use Rattle.rules.proofs.Dims.{Width, width-3}
+use Rattle.rules.proofs.Dims.{Width}
 use Rattle.rules.proofs.Reading.{not-free, pixel-reads}
 use Rattle.rules.proofs.Reach.{reached-placed, placed-reached}
 use Rattle.rules.proofs.Carried.{opening-done, start-done}
@@ -35,7 +35,7 @@ use Rattle.rules.proofs.Along.{Along, below}
 use Rattle.rules.proofs.Starting.{start-yes, starter, fine-started}
 use Rattle.rules.proofs.Opened.{along-opened}
 use Rattle.rules.proofs.Sequence.{run-along}
-use Rattle.rules.proofs.Theorem.{opening-yes}
+use Rattle.rules.proofs.Theorem.{opening-yes, opened-width}
 use Rattle.rules.proofs.Turned.{still-searching}
 use Rattle.rules.proofs.Alone.{turns-are}
 use Rattle.rules.proofs.Ending.{none-left, full-unseen, stopped, fine-full}
@@ -80,7 +80,7 @@ module _ (w i : ℕ) (s₀ : Settings) (here : i < s₀ .workers) (B : List ℕ)
     pub over : Over B P K t₀ (s₀ .nodes) world (workers i .node) (r .reply .settings .«nodes_taken») (r .reply .answer)
 
   abbrev Runs : ℕ → Type 0
-  Runs n = (x : State) (W : WorldOf w s₀) (ws : ℕ → Worker) (F : Fine w s₀ x W ws) → question7 (recordOf w (x .areas) i) ≡ false → measure (levelCount w s₀) W (ws i .act) < n → Calm B P K t₀ W (ws i) (x .settings .«nodes_taken») → Leaves (runAlone w n i x)
+  Runs n = (x : State) (W : WorldOf w s₀) (ws : ℕ → Worker) (F : Fine w s₀ x W ws) → question7 (recordOf (x .areas) i) ≡ false → measure (levelCount w s₀) W (ws i .act) < n → Calm B P K t₀ W (ws i) (x .settings .«nodes_taken») → Leaves (runAlone w n i x)
 
   ends-here : (n : ℕ) (x : State) → goesOn (turn w (x .settings) i (x .areas) .reply .answer) ≡ false → Leaves (turn w (x .settings) i (x .areas)) → Leaves (runAlone w (suc n) i x)
   unfolding runAlone
@@ -101,7 +101,7 @@ module _ (w i : ℕ) (s₀ : Settings) (here : i < s₀ .workers) (B : List ℕ)
       mine : (c : Worker) → upd ws i c i ≡ c
       mine c = upd-same ws i c
 
-      on : Runs n → (T : TurnOk w s₀ W ws i (act w (x .settings) (recordOf w (x .areas) i) (memoryOf (x .areas)))) → r ≡ taken w (act w (x .settings) (recordOf w (x .areas) i) (memoryOf (x .areas))) i (x .areas .workers) → {v : Answer} → r .reply .answer ≡ v → Rowing W (T .world) (ws i) (T .worker) v → Held W (ws i) (T .worker .node) (r .reply .settings .«nodes_taken») v → Leaves (runAlone w (suc n) i x)
+      on : Runs n → (T : TurnOk w s₀ W ws i (act w (x .settings) (recordOf (x .areas) i) (memoryOf (x .areas)))) → r ≡ taken (act w (x .settings) (recordOf (x .areas) i) (memoryOf (x .areas))) i (x .areas .workers) → {v : Answer} → r .reply .answer ≡ v → Rowing W (T .world) (ws i) (T .worker) v → Held W (ws i) (T .worker .node) (r .reply .settings .«nodes_taken») v → Leaves (runAlone w (suc n) i x)
       on f T e a (goes E b z p q) d =
           let F′ = subst (λ (u : Result). Fine w s₀ (after u) (T .world) (upd ws i (T .worker))) (sym e) (fine-taken F i here busy T) in
           let M = rw (mine (T .worker)) at (F′ .records i here) in
@@ -118,7 +118,7 @@ module _ (w i : ℕ) (s₀ : Settings) (here : i < s₀ .workers) (B : List ℕ)
       by : Runs n → TurnIs F i here busy → Leaves (runAlone w (suc n) i x)
       by f (carried e T) = let a = ap (λ (u : Result). u .reply .answer) e in on f T e a (T .rowing) (rw (ap (λ (u : Result). u .reply .settings .«nodes_taken») e) (T .held))
       by f (filled e q) =
-          let N = none-left (x .settings) (recordOf w (x .areas) i) q in
+          let N = none-left (x .settings) (recordOf (x .areas) i) q in
           let a : r .reply .answer ≡ Full = ap (λ (u : Result). u .reply .answer) e in
           let t : r .reply .settings .«nodes_taken» ≡ x .settings .«nodes_taken» = ap (λ (u : Result). u .reply .settings .«nodes_taken») e in
           let F′ = subst (λ (u : Result). Fine w s₀ (after u) W (upd ws i (stopped (ws i)))) (sym e) (fine-full F i here) in
@@ -159,7 +159,7 @@ module _ {w : ℕ} {s₀ : Settings} {x : State} {W : WorldOf w s₀} {ws : ℕ 
   call-alone = record { answers = answered refl (L .over .ended); no-spare = L .fine .records i here .node-is ∙ L .over .empty; idle = idle-rests (L .fine .records i here) (L .rests) }
 
 -- a start that is carried out, in a state of a sequence
-pub answers-of : {w : ℕ} {s₀ : Settings} {x : State} {k : ℕ} {os : List Opened} {cs : List Call} (a : Along w s₀ x k os cs) (i row column : ℕ) → start w (x .settings) i row column (x .areas) .reply .number ≡ 0 → NoSpare w x i → CallAlone w i (pixelNumber row column) x (runAlone w (aloneTurns w s₀) i (after (start w (x .settings) i row column (x .areas))))
+pub answers-of : {w : ℕ} {s₀ : Settings} {x : State} {k : ℕ} {os : List Opened} {cs : List Call} (a : Along w s₀ x k os cs) (i row column : ℕ) → start w (x .settings) i row column (x .areas) .reply .number ≡ 0 → NoSpare x i → CallAlone w i (pixelNumber row column) x (runAlone w (aloneTurns w s₀) i (after (start w (x .settings) i row column (x .areas))))
 answers-of {w} {s₀} {x} a i row column z n =
     let F = a .fine in
     let y = start-yes w x i row column (refuses-start w (x .settings) i row column (x .areas) .numbered .carried .0 z) in
@@ -174,12 +174,12 @@ answers-of {w} {s₀} {x} a i row column z n =
     (call-alone F (a .top) i h (pixelNumber row column) (runs w i s₀ h (a .world .book) (a .world .pixel) (pixelNumber row column) (x .settings .«nodes_taken») _ _ _ _ G (acts-busy M still-searching) l (rw mine k)))
 
 -- over every width whose digits fit the pixel numbers
-pub alone-answers : (w : ℕ) → Width w → AnswersStatement w
+pub alone-answers : (w : ℕ) → Width w → (s : Settings) → AnswersStatement w s
 alone-answers w width s a z =
     let y = refuses-opening w s a .numbered .carried .0 z in
     let b = along-opened width s a (opening-yes w s a y .0) (opening-yes w s a y .1) in
     rw (opening-done w s a z) (λ es i row column. answers-of (run-along es _ 0 [] [] b .along) i row column)
 
--- document 01's table
-pub alone-answers-3 : AnswersStatement 3
-alone-answers-3 = alone-answers 3 width-3
+-- document 02's tables, each at the width that its settings give
+pub alone-answers-all : AtWidth AnswersStatement
+alone-answers-all s a z = alone-answers (s .width) (opened-width (s .width) s a z) s a z

@@ -8,7 +8,7 @@ use Rattle.words.specs.Choice.{every}
 use Rattle.words.proofs.Choice.{both-true}
 use Rattle.settings.specs.declared.Settings.{Settings}
 use Rattle.rules.specs.Asked.{question5, question6Record, question7}
-use Rattle.rules.specs.Operations.{recordOf, startQuestions, start}
+use Rattle.rules.specs.Operations.{AtWidth, recordOf, startQuestions, start}
 use Rattle.rules.specs.Lists.{State, after}
 use Rattle.rules.specs.Calls.{Event, starts, happens, stateAfter}
 use Rattle.rules.specs.Refusals.{AllYes}
@@ -16,7 +16,7 @@ use Rattle.rules.specs.Alone.{runAlone, aloneTurns, turnsOf}
 use Rattle.rules.specs.AloneAnswers.{StartsStatement, ReachesStatement}
 use Rattle.trie.proofs.Update.{upd-same}
 use Rattle.trie.proofs.Whole.{Worker}
-use Rattle.rules.proofs.Dims.{Width, width-3}
+use Rattle.rules.proofs.Dims.{Width}
 use Rattle.rules.proofs.Invariant.{WorldOf, Fine, at}
 use Rattle.rules.proofs.FineQuestions.{yes-1, yes-2, yes-3, yes-4, worker-of}
 use Rattle.rules.proofs.Fitting.{fits-ok}
@@ -28,16 +28,16 @@ use Rattle.rules.proofs.Starting.{start-yes, starter, fine-started}
 use Rattle.rules.proofs.Along.{Along}
 use Rattle.rules.proofs.Opened.{along-opened}
 use Rattle.rules.proofs.Sequence.{after-append, run-along}
-use Rattle.rules.proofs.Theorem.{opening-yes}
+use Rattle.rules.proofs.Theorem.{opening-yes, opened-width}
 use Rattle.rules.proofs.Alone.{ends-from, run-state}
 
 module _ {w : ℕ} {s₀ : Settings} {x : State} {W : WorldOf w s₀} {ws : ℕ → Worker} (F : Fine w s₀ x W ws) (i row column : ℕ) where
-  start-all-yes : i < s₀ .workers → question5 row column ≡ true → question7 (recordOf w (x .areas) i) ≡ true → AllYes (startQuestions w (x .settings) i row column (x .areas))
+  start-all-yes : i < s₀ .workers → question5 row column ≡ true → question7 (recordOf (x .areas) i) ≡ true → AllYes (startQuestions w (x .settings) i row column (x .areas))
   unfolding startQuestions every question6Record
   start-all-yes h q r =
       both-true (yes-1 F) (both-true (yes-2 F) (both-true (yes-3 F) (both-true (yes-4 F i h) (both-true q (both-true (fits-ok (at F i h)) (both-true r refl))))))
 
-  pub carried : i < s₀ .workers → question5 row column ≡ true → question7 (recordOf w (x .areas) i) ≡ true → start w (x .settings) i row column (x .areas) .reply .number ≡ 0
+  pub carried : i < s₀ .workers → question5 row column ≡ true → question7 (recordOf (x .areas) i) ≡ true → start w (x .settings) i row column (x .areas) .reply .number ≡ 0
   carried h q r = refuses-start w (x .settings) i row column (x .areas) .numbered .carried .1 (start-all-yes h q r)
 
   -- the run from the start on, as turns
@@ -60,20 +60,20 @@ reaches-of {w} {s₀} {x} a es i row column z =
     (k, events-of w es i row column k x ∙ e)
 
 -- over every width whose digits fit the pixel numbers
-pub starts-carried : (w : ℕ) → Width w → StartsStatement w
+pub starts-carried : (w : ℕ) → Width w → (s : Settings) → StartsStatement w s
 starts-carried w width s a z =
     let y = refuses-opening w s a .numbered .carried .0 z in
     let b = along-opened width s a (opening-yes w s a y .0) (opening-yes w s a y .1) in
     rw (opening-done w s a z) (λ es i row column. carried (run-along es _ 0 [] [] b .along .fine) i row column)
 
-pub reaches : (w : ℕ) → Width w → ReachesStatement w
+pub reaches : (w : ℕ) → Width w → (s : Settings) → ReachesStatement w s
 reaches w width s a z =
     let y = refuses-opening w s a .numbered .carried .0 z in
     rw (opening-done w s a z) (reaches-of (along-opened width s a (opening-yes w s a y .0) (opening-yes w s a y .1)))
 
--- document 01's table
-pub starts-carried-3 : StartsStatement 3
-starts-carried-3 = starts-carried 3 width-3
+-- document 02's tables, each at the width that its settings give
+pub starts-carried-all : AtWidth StartsStatement
+starts-carried-all s a z = starts-carried (s .width) (opened-width (s .width) s a z) s a z
 
-pub reaches-3 : ReachesStatement 3
-reaches-3 = reaches 3 width-3
+pub reaches-all : AtWidth ReachesStatement
+reaches-all s a z = reaches (s .width) (opened-width (s .width) s a z) s a z

@@ -29,27 +29,27 @@ nine-first : (b : Bool) → b ≡ false → firstNo (asks 9 b ∷ []) ≡ 9
 unfolding firstNo
 nine-first b e = pick-false _ _ _ e
 
-module _ {w : ℕ} {s₀ : Settings} {x : State} {W : WorldOf w s₀} {ws : ℕ → Worker} (F : Fine w s₀ x W ws) (i : ℕ) (here : i < s₀ .workers) (busy : question7 (recordOf w (x .areas) i) ≡ false) where
+module _ {w : ℕ} {s₀ : Settings} {x : State} {W : WorldOf w s₀} {ws : ℕ → Worker} (F : Fine w s₀ x W ws) (i : ℕ) (here : i < s₀ .workers) (busy : question7 (recordOf (x .areas) i) ≡ false) where
   -- question 9 alone can be answered no
-  number-is : turn w (x .settings) i (x .areas) .reply .number ≡ firstNo (asks 9 (question9 (x .settings) (recordOf w (x .areas) i)) ∷ [])
+  number-is : turn w (x .settings) i (x .areas) .reply .number ≡ firstNo (asks 9 (question9 (x .settings) (recordOf (x .areas) i)) ∷ [])
   unfolding turnQuestions
   number-is =
       turn-number w (x .settings) i (x .areas)
       ∙ first-yes 1 _ (yes-1 F) ∙ first-yes 2 _ (yes-2 F) ∙ first-yes 3 _ (yes-3 F) ∙ first-yes 4 _ (yes-4 F i here)
-      ∙ first-yes 6 _ (asks-ok (at F i here)) ∙ first-yes 8 _ (open-of (recordOf w (x .areas) i) busy)
+      ∙ first-yes 6 _ (asks-ok (at F i here)) ∙ first-yes 8 _ (open-of (recordOf (x .areas) i) busy)
 
   pub data TurnIs : Type 0 where
-    carried : turn w (x .settings) i (x .areas) ≡ taken w (act w (x .settings) (recordOf w (x .areas) i) (memoryOf (x .areas))) i (x .areas .workers) → TurnOk w s₀ W ws i (act w (x .settings) (recordOf w (x .areas) i) (memoryOf (x .areas))) → TurnIs
-    filled : turn w (x .settings) i (x .areas) ≡ full w (x .settings) i (x .areas) → question9 (x .settings) (recordOf w (x .areas) i) ≡ false → TurnIs
+    carried : turn w (x .settings) i (x .areas) ≡ taken (act w (x .settings) (recordOf (x .areas) i) (memoryOf (x .areas))) i (x .areas .workers) → TurnOk w s₀ W ws i (act w (x .settings) (recordOf (x .areas) i) (memoryOf (x .areas))) → TurnIs
+    filled : turn w (x .settings) i (x .areas) ≡ full (x .settings) i (x .areas) → question9 (x .settings) (recordOf (x .areas) i) ≡ false → TurnIs
 
   pub turn-is : TurnIs
-  turn-is = by (question9 (x .settings) (recordOf w (x .areas) i)) refl
+  turn-is = by (question9 (x .settings) (recordOf (x .areas) i)) refl
     where
-      by : (b : Bool) → question9 (x .settings) (recordOf w (x .areas) i) ≡ b → TurnIs
+      by : (b : Bool) → question9 (x .settings) (recordOf (x .areas) i) ≡ b → TurnIs
       by true q = carried (done-number w (x .settings) i (x .areas) (number-is ∙ first-of-nine _ q)) (turn-ok (at F i here) busy q)
       by false q = filled (nine-is-full w (x .settings) i (x .areas) (number-is ∙ nine-first _ q)) q
 
   -- the state after a turn that is taken
-  pub fine-taken : (K : TurnOk w s₀ W ws i (act w (x .settings) (recordOf w (x .areas) i) (memoryOf (x .areas)))) → Fine w s₀ (after (taken w (act w (x .settings) (recordOf w (x .areas) i) (memoryOf (x .areas))) i (x .areas .workers))) (K .world) (upd ws i (K .worker))
+  pub fine-taken : (K : TurnOk w s₀ W ws i (act w (x .settings) (recordOf (x .areas) i) (memoryOf (x .areas)))) → Fine w s₀ (after (taken (act w (x .settings) (recordOf (x .areas) i) (memoryOf (x .areas))) i (x .areas .workers))) (K .world) (upd ws i (K .worker))
   unfolding taken
   fine-taken K = fine-after F i here (K .table) (K .inv) (K .levels) (K .matches)

@@ -13,19 +13,19 @@ use Rattle.record.specs.Layout.{Record}
 use Rattle.record.proofs.Records.{idle}
 use Rattle.rules.specs.Opening.{openedSettings}
 use Rattle.rules.specs.Asked.{question5, question7}
-use Rattle.rules.specs.Operations.{recordOf}
+use Rattle.rules.specs.Operations.{AtWidth, recordOf}
 use Rattle.rules.specs.Lists.{State, after}
 use Rattle.rules.specs.Calls.{Event, starts, stateAfter}
 use Rattle.rules.specs.Alone.{aloneTurns, turnsOf}
 use Rattle.rules.specs.AloneAnswers.{NoSpare}
 use Rattle.rules.specs.CallsAlone.{Place, flatAnswer, flatNext, flatAnswers, flatLast, callAlone, answersAlone, lastAlone, ShowsList, AllInside, ListLike, CallsStatement}
-use Rattle.rules.proofs.Dims.{Width, width-3}
+use Rattle.rules.proofs.Dims.{Width}
 use Rattle.rules.proofs.Carried.{opening-done}
 use Rattle.rules.proofs.Refused.{refuses-opening}
 use Rattle.rules.proofs.Along.{Along}
 use Rattle.rules.proofs.Opened.{opened-record, along-opened}
 use Rattle.rules.proofs.Sequence.{run-along}
-use Rattle.rules.proofs.Theorem.{opening-yes}
+use Rattle.rules.proofs.Theorem.{opening-yes, opened-width}
 use Rattle.rules.proofs.AloneAnswers.{one-shown, none-shown, answers-of}
 use Rattle.rules.proofs.AloneNext.{carried, reaches-of}
 use Rattle.rules.proofs.Flat.{flat-call}
@@ -34,8 +34,8 @@ use Rattle.rules.proofs.Flat.{flat-call}
 module _ {w : ℕ} {s₀ : Settings} {x₀ : State} (a : Along w s₀ x₀ 0 [] []) (i : ℕ) (here : i < s₀ .workers) where
   -- the state after the events: the worker is idle and holds nothing, and the table shows the list
   record Ready (es : List Event) (l : List ℕ) : Type 0 where
-    idle : question7 (recordOf w (stateAfter w es x₀ .areas) i) ≡ true
-    no-spare : NoSpare w (stateAfter w es x₀) i
+    idle : question7 (recordOf (stateAfter w es x₀ .areas) i) ≡ true
+    no-spare : NoSpare (stateAfter w es x₀) i
     table : ShowsList w (stateAfter w es x₀) l
 
   -- after one call
@@ -71,7 +71,7 @@ module _ {w : ℕ} {s₀ : Settings} {x₀ : State} (a : Along w s₀ x₀ 0 [] 
       (ap₂ (λ x xs. x ∷ xs) (c .answer-is) v, t)
 
   -- nothing is placed
-  list-like : x₀ .settings .«nodes_taken» ≡ 0 → question7 (recordOf w (x₀ .areas) i) ≡ true → NoSpare w x₀ i → (ps : List Place) → AllInside ps → ListLike w s₀ x₀ i ps
+  list-like : x₀ .settings .«nodes_taken» ≡ 0 → question7 (recordOf (x₀ .areas) i) ≡ true → NoSpare x₀ i → (ps : List Place) → AllInside ps → ListLike w s₀ x₀ i ps
   unfolding stateAfter
   list-like z q n ps u =
       let t : ShowsList w x₀ [] = record { count = z; shows = λ p m. (λ h. absurd (none-shown (a .fine) (a .top) z p m h), λ h. absurd (omega (arith, h .0))) } in
@@ -83,7 +83,7 @@ unfolding question7 kindNo
 idle-7 = refl
 
 -- over every width whose digits fit the pixel numbers
-pub calls-alone : (w : ℕ) → Width w → CallsStatement w
+pub calls-alone : (w : ℕ) → Width w → (s : Settings) → CallsStatement w s
 unfolding openedSettings fresh
 calls-alone w width s a z i h ps u =
     let y = refuses-opening w s a .numbered .carried .0 z in
@@ -91,6 +91,6 @@ calls-alone w width s a z i h ps u =
     let r = opened-record w s a i h (q .1) in
     rw (opening-done w s a z) (list-like (along-opened width s a (q .0) (q .1)) i h refl (ap question7 r ∙ idle-7) (ap (λ (r : Record). r .head .«held_node») r) ps u)
 
--- document 01's table
-pub calls-alone-3 : CallsStatement 3
-calls-alone-3 = calls-alone 3 width-3
+-- document 02's tables, each at the width that its settings give
+pub calls-alone-all : AtWidth CallsStatement
+calls-alone-all s a z = calls-alone (s .width) (opened-width (s .width) s a z) s a z

@@ -13,6 +13,6 @@ pub opening-done : (w : ℕ) (s : Settings) (a : Areas) → opening w s a .reply
 unfolding opening
 opening-done w s a z = unless-done s a _ _ refl z
 
-pub start-done : (w : ℕ) (s : Settings) (i row column : ℕ) (a : Areas) → start w s i row column a .reply .number ≡ 0 → start w s i row column a ≡ result (reply 0 Open 0 s) (startedAreas w i row column a)
+pub start-done : (w : ℕ) (s : Settings) (i row column : ℕ) (a : Areas) → start w s i row column a .reply .number ≡ 0 → start w s i row column a ≡ result (reply 0 Open 0 s) (startedAreas i row column a)
 unfolding start
 start-done w s i row column a z = unless-done s a _ _ refl z

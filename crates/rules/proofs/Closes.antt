@@ -55,32 +55,32 @@ no-moves w s r k t =
 
 module _ (w : ℕ) (s : Settings) (i : ℕ) (a : Areas) where
   -- the worker's words are there
-  there : TurnAsked w s i a 9 → workerWords w * i + workerWords w ≤ length (a .workers)
+  there : TurnAsked w s i a 9 → workerWords * i + workerWords ≤ length (a .workers)
   unfolding question2 question4
   there y =
-      let n : workerWords w * s .workers ≤ length (a .workers) = leb-true _ _ (both-right _ _ (both-right _ _ (y .two))) in
+      let n : workerWords * s .workers ≤ length (a .workers) = leb-true _ _ (both-right _ _ (both-right _ _ (y .two))) in
       let b : i < s .workers = ltb-true _ _ (y .four) in
-      let l : workerWords w * i + workerWords w ≤ workerWords w * s .workers = place-next w b in
+      let l : workerWords * i + workerWords ≤ workerWords * s .workers = place-next b in
       omega arith
 
   -- its number of Moves is 0
-  moves-none : TurnAsked w s i a 9 → movesAt w (a .workers) i ≡ 0
+  moves-none : TurnAsked w s i a 9 → movesAt (a .workers) i ≡ 0
   unfolding question6 fits load
   moves-none y =
-      let r : Record = recordOf w a i in
+      let r : Record = recordOf a i in
       let t = takes-number (r .head .kind) (none-left s r (last-no 9 _ (λ z. omega arith) (y .nine)) .taking) in
-      sym (length-first w (a .workers) i (movesAt w (a .workers) i)) ∙ no-moves w s r (kindNo (r .head .kind)) t (both-left _ _ (y .six))
+      sym (length-first (a .workers) i (movesAt (a .workers) i)) ∙ no-moves w s r (kindNo (r .head .kind)) t (both-left _ _ (y .six))
 
   -- the workers' words after it
   words : List ℕ
-  words = store w (fullRecord (recordOf w a i .head)) i (a .workers)
+  words = store (fullRecord (recordOf a i .head)) i (a .workers)
 
   -- word j of the head is as it was loaded
-  head-word : movesAt w (a .workers) i ≡ 0 → (j : ℕ) → j < 10 → j ≢ 0 → j ≢ 7 → j ≢ 8 → getD (headList (fullRecord (recordOf w a i .head) .head) 0) j 0 ≡ getD (a .workers) (workerPlace w i + j) 0
+  head-word : movesAt (a .workers) i ≡ 0 → (j : ℕ) → j < 10 → j ≢ 0 → j ≢ 7 → j ≢ 8 → getD (headList (fullRecord (recordOf a i .head) .head) 0) j 0 ≡ getD (a .workers) (workerPlace i + j) 0
   unfolding headList fullRecord ended load headAt headFrom movesAt
   head-word e j h n₀ n₇ n₈ =
-      let P : ℕ → Type 0 = λ k. getD (headList (fullRecord (recordOf w a i .head) .head) 0) k 0 ≡ getD (a .workers) (workerPlace w i + k) 0 in
-      let loaded : (k : ℕ) → k < 9 → getD (cells (a .workers) (workerPlace w i) 9) k 0 ≡ getD (a .workers) (workerPlace w i + k) 0 = getD-cells (a .workers) (workerPlace w i) 9 in
+      let P : ℕ → Type 0 = λ k. getD (headList (fullRecord (recordOf a i .head) .head) 0) k 0 ≡ getD (a .workers) (workerPlace i + k) 0 in
+      let loaded : (k : ℕ) → k < 9 → getD (cells (a .workers) (workerPlace i) 9) k 0 ≡ getD (a .workers) (workerPlace i + k) 0 = getD-cells (a .workers) (workerPlace i) 9 in
       at-or-above P j 1 (omega arith) (loaded 1 (omega arith))
       (λ l₁. at-or-above P j 2 (omega arith) (loaded 2 (omega arith))
       (λ l₂. at-or-above P j 3 (omega arith) (loaded 3 (omega arith))
@@ -90,52 +90,52 @@ module _ (w : ℕ) (s : Settings) (i : ℕ) (a : Areas) where
       (λ l₆. at-or-above P j 9 (omega arith) (sym e) (λ l₉. absurd (omega arith))))))))
 
   -- and so is it in what is stored
-  in-head : TurnAsked w s i a 9 → (j : ℕ) → j < 10 → j ≢ 0 → j ≢ 7 → j ≢ 8 → getD words (workerPlace w i + j) 0 ≡ getD (a .workers) (workerPlace w i + j) 0
+  in-head : TurnAsked w s i a 9 → (j : ℕ) → j < 10 → j ≢ 0 → j ≢ 7 → j ≢ 8 → getD words (workerPlace i + j) 0 ≡ getD (a .workers) (workerPlace i + j) 0
   unfolding words workerPlace fullRecord
   in-head y j h n₀ n₇ n₈ =
       let t = there y in
-      let c = room w in
-      sym (getD-cells words (workerPlace w i) 10 j h)
-      ∙ ap (λ (v : List ℕ). getD v j 0) (store-head w (fullRecord (recordOf w a i .head)) i (a .workers) (omega arith))
+      let c = room in
+      sym (getD-cells words (workerPlace i) 10 j h)
+      ∙ ap (λ (v : List ℕ). getD v j 0) (store-head w (fullRecord (recordOf a i .head)) i (a .workers) (omega arith))
       ∙ head-word (moves-none y) j h n₀ n₇ n₈
 
-  words-stay : TurnAsked w s i a 9 → (k : ℕ) → k ≢ workerWords w * i → k ≢ workerWords w * i + 7 → k ≢ workerWords w * i + 8 → getD words k 0 ≡ getD (a .workers) k 0
+  words-stay : TurnAsked w s i a 9 → (k : ℕ) → k ≢ workerWords * i → k ≢ workerWords * i + 7 → k ≢ workerWords * i + 8 → getD words k 0 ≡ getD (a .workers) k 0
   unfolding words fullRecord store storeMoves workerPlace
-  words-stay y k n₀ n₇ n₈ = by (ltb k (workerWords w * i)) refl (ltb k (workerWords w * i + 10)) refl
+  words-stay y k n₀ n₇ n₈ = by (ltb k (workerWords * i)) refl (ltb k (workerWords * i + 10)) refl
     where
-      by : (b : Bool) → ltb k (workerWords w * i) ≡ b → (c : Bool) → ltb k (workerWords w * i + 10) ≡ c → getD words k 0 ≡ getD (a .workers) k 0
-      by true e c f = head-outside w _ 0 i (a .workers) k (before (ltb-true _ _ e))
-      by false e false f = head-outside w _ 0 i (a .workers) k (after (ltb-false _ _ f))
+      by : (b : Bool) → ltb k (workerWords * i) ≡ b → (c : Bool) → ltb k (workerWords * i + 10) ≡ c → getD words k 0 ≡ getD (a .workers) k 0
+      by true e c f = head-outside _ 0 i (a .workers) k (before (ltb-true _ _ e))
+      by false e false f = head-outside _ 0 i (a .workers) k (after (ltb-false _ _ f))
       by false e true f =
-          let l : workerWords w * i ≤ k = ltb-false _ _ e in
-          let u : k < workerWords w * i + 10 = ltb-true _ _ f in
-          let q : workerWords w * i + (k - workerWords w * i) ≡ k = omega arith in
-          rw q at (in-head y (k - workerWords w * i) (omega arith) (λ z. n₀ (omega arith)) (λ z. n₇ (omega arith)) (λ z. n₈ (omega arith)))
+          let l : workerWords * i ≤ k = ltb-false _ _ e in
+          let u : k < workerWords * i + 10 = ltb-true _ _ f in
+          let q : workerWords * i + (k - workerWords * i) ≡ k = omega arith in
+          rw q at (in-head y (k - workerWords * i) (omega arith) (λ z. n₀ (omega arith)) (λ z. n₇ (omega arith)) (λ z. n₈ (omega arith)))
 
-  no-node : workerWords w * i + 10 ≤ length (a .workers) → getD words (workerWords w * i + 8) 0 ≡ 0
+  no-node : workerWords * i + 10 ≤ length (a .workers) → getD words (workerWords * i + 8) 0 ≡ 0
   unfolding words workerPlace fullRecord ended headList
   no-node t =
-      sym (getD-cells words (workerPlace w i) 10 8 (omega arith))
-      ∙ ap (λ (v : List ℕ). getD v 8 0) (store-head w (fullRecord (recordOf w a i .head)) i (a .workers) t)
+      sym (getD-cells words (workerPlace i) 10 8 (omega arith))
+      ∙ ap (λ (v : List ℕ). getD v 8 0) (store-head w (fullRecord (recordOf a i .head)) i (a .workers) t)
 
-  head-is : workerWords w * i + 10 ≤ length (a .workers) → headAt w words i ≡ fullRecord (recordOf w a i .head) .head
+  head-is : workerWords * i + 10 ≤ length (a .workers) → headAt words i ≡ fullRecord (recordOf a i .head) .head
   unfolding words workerPlace
-  head-is t = head-stored w (fullRecord (recordOf w a i .head)) i (a .workers) t
+  head-is t = head-stored w (fullRecord (recordOf a i .head)) i (a .workers) t
 
-  idle-of : (h : Head) → h ≡ fullRecord (recordOf w a i .head) .head → eqb (kindNo (h .kind)) 0 ≡ true
+  idle-of : (h : Head) → h ≡ fullRecord (recordOf a i .head) .head → eqb (kindNo (h .kind)) 0 ≡ true
   unfolding fullRecord ended kindNo
   idle-of h e = rw e refl
 
-  told-of : (h : Head) → h ≡ fullRecord (recordOf w a i .head) .head → lastOf h ≡ Full
+  told-of : (h : Head) → h ≡ fullRecord (recordOf a i .head) .head → lastOf h ≡ Full
   unfolding fullRecord ended kindNo lastOf answerOf pick
   told-of h e = rw e refl
 
-  full-closes-at : TurnAsked w s i a 9 → Closes w s i a (full w s i a)
+  full-closes-at : TurnAsked w s i a 9 → Closes s i a (full s i a)
   unfolding full words question7 load
   full-closes-at y =
       let t = there y in
-      let c = room w in
-      let q : workerWords w * i + 10 ≤ length (a .workers) = omega arith in
+      let c = room in
+      let q : workerWords * i + 10 ≤ length (a .workers) = omega arith in
       record {
         settings-stay = refl;
         nodes-stay = refl;
@@ -150,4 +150,4 @@ module _ (w : ℕ) (s : Settings) (i : ℕ) (a : Areas) where
 pub full-closes : (w : ℕ) → FullCloses w
 full-closes w s i a e =
     let y = turn-asked w s i a (λ k l h z. omega arith) (sym (turn-number w s i a) ∙ e) in
-    subst (λ (r : Result). Closes w s i a r) (sym (nine-is-full w s i a e)) (full-closes-at w s i a y)
+    subst (λ (r : Result). Closes s i a r) (sym (nine-is-full w s i a e)) (full-closes-at w s i a y)

@@ -151,5 +151,5 @@ module _ {w : ℕ} {x : State} {es : List Event} (R : Row w x es) where
       }
 
 -- of every sequence
-pub consequences : (s : Settings) (a : Areas) (z : opening 3 s a .reply .number ≡ 0) (es : List Event) → Consequences (theorem s a z es .row)
+pub consequences : (s : Settings) (a : Areas) (z : opening (s .width) s a .reply .number ≡ 0) (es : List Event) → Consequences (theorem s a z es .row)
 consequences s a z es = follows (theorem s a z es .row)

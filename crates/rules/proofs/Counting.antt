@@ -129,10 +129,10 @@ module _ (w : ℕ) (x : State) where
       r = turn w (x .settings) i (x .areas)
 
       a : Bool
-      a = takesNode (recordOf w (x .areas) i .head .kind)
+      a = takesNode (recordOf (x .areas) i .head .kind)
 
       b : Bool
-      b = eqb (recordOf w (x .areas) i .head .«held_node») 0
+      b = eqb (recordOf (x .areas) i .head .«held_node») 0
 
       none : r .reply .settings .«nodes_taken» ≡ x .settings .«nodes_taken» → r .reply .number ≢ 0 → r .reply .settings .«nodes_taken» ≡ x .settings .«nodes_taken» + pick (both a (both b (eqb (r .reply .number) 0))) 1 0
       none e z =
@@ -144,7 +144,7 @@ module _ (w : ℕ) (x : State) where
       by (yes z) d =
           let q : eqb (r .reply .number) 0 ≡ true = eq-eqb _ _ z in
           let y : _≡_ {A = ℕ} (pick (both a (both b (eqb (r .reply .number) 0))) 1 0) (pick (both a b) 1 0) = rw (q, both-true-right) refl in
-          let e : r .reply .settings .«nodes_taken» ≡ x .settings .«nodes_taken» + pick (both a b) 1 0 = ap (λ u. u .reply .settings .«nodes_taken») (done-number w (x .settings) i (x .areas) z) ∙ act-counts w (x .settings) (recordOf w (x .areas) i) (memoryOf (x .areas)) in
+          let e : r .reply .settings .«nodes_taken» ≡ x .settings .«nodes_taken» + pick (both a b) 1 0 = ap (λ u. u .reply .settings .«nodes_taken») (done-number w (x .settings) i (x .areas) z) ∙ act-counts w (x .settings) (recordOf (x .areas) i) (memoryOf (x .areas)) in
           omega arith
       by (no z) (yes y) = none (ap (λ u. u .reply .settings .«nodes_taken») (nine-is-full w (x .settings) i (x .areas) y)) z
       by (no z) (no y) = none (ap (λ u. u .reply .settings .«nodes_taken») (turn-refused w (x .settings) i (x .areas) z y)) z

@@ -4,7 +4,8 @@ use Prim.Native.Nat.{ℕ, zero, suc, _-_, _^_, _≤_, _<_}
 use mathlib.Core.Path.{_≡_, refl}
 use native.Mathlib.Omega.{arith}
 use native.Mathlib.Nat.{pow-suc, pow-zero, div-le-self}
-use Rattle.words.specs.Digits.{base, depths, digit, maxPixel}
+use Rattle.words.specs.Digits.{DigitWidth, two, three, four, six, base, depths, digit, maxPixel}
+use Rattle.settings.specs.Sizes.{maxMoves, mostMoves}
 use Rattle.trie.proofs.Digits as theory
 
 pub base-pos : (w : ℕ) → 0 < base w
@@ -16,14 +17,19 @@ base-pos (suc w) = let h = base-pos w in rw pow-suc (omega arith)
 abbrev pub dims : ℕ → ℕ → theory.Dims
 dims w l = record { base = base w; depths = depths w; limit = l; base-pos = base-pos w }
 
--- the digits of every pixel number fit the depths, and there is a depth
+-- the digits of every pixel number fit the depths, there is a depth, and a worker's words hold the Moves that may be one inside another
 pub record Width (w : ℕ) : Type 0 where
   pub some : 0 < depths w
   pub all : base w ^ depths w ≡ suc maxPixel
+  pub few : maxMoves w ≤ mostMoves
 
-pub width-3 : Width 3
-unfolding base depths
-width-3 = record { some = omega arith; all = refl }
+-- document 02's four widths are such: the only place of the theory that takes them one by one
+pub width-of : {w : ℕ} → DigitWidth w → Width w
+unfolding base depths maxMoves
+width-of two = record { some = omega arith; all = refl; few = omega arith }
+width-of three = record { some = omega arith; all = refl; few = omega arith }
+width-of four = record { some = omega arith; all = refl; few = omega arith }
+width-of six = record { some = omega arith; all = refl; few = omega arith }
 
 pub depths-le : (w : ℕ) → depths w ≤ 24
 unfolding depths

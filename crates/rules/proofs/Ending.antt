@@ -82,7 +82,7 @@ abbrev pub stopped : Worker → Worker
 stopped c = record { key = c .key; since = c .since; node = c .node; level = c .level; act = idle }
 
 -- and the state
-pub fine-full : {w : ℕ} {s₀ : Settings} {x : State} {W : WorldOf w s₀} {ws : ℕ → Worker} (F : Fine w s₀ x W ws) (i : ℕ) → i < s₀ .workers → Fine w s₀ (after (full w (x .settings) i (x .areas))) W (upd ws i (stopped (ws i)))
+pub fine-full : {w : ℕ} {s₀ : Settings} {x : State} {W : WorldOf w s₀} {ws : ℕ → Worker} (F : Fine w s₀ x W ws) (i : ℕ) → i < s₀ .workers → Fine w s₀ (after (full (x .settings) i (x .areas))) W (upd ws i (stopped (ws i)))
 unfolding full fullRecord ended
 fine-full {W = W} {ws = ws} F i h =
     let M = F .records i h in

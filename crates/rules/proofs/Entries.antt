@@ -24,13 +24,13 @@ module _ (w : ℕ) (x : State) (i : ℕ) where
 
   -- the entry's questions 6, 8 and 9
   abbrev six : Bool
-  six = question6 w (x .settings) (recordOf w (x .areas) i) (memoryOf (x .areas))
+  six = question6 w (x .settings) (recordOf (x .areas) i) (memoryOf (x .areas))
 
   abbrev eight : Bool
-  eight = question8 (recordOf w (x .areas) i)
+  eight = question8 (recordOf (x .areas) i)
 
   abbrev nine : Bool
-  nine = question9 (x .settings) (recordOf w (x .areas) i)
+  nine = question9 (x .settings) (recordOf (x .areas) i)
 
   -- questions 1 to 6 have other numbers
   past-6 : {n : ℕ} → ((k : ℕ) → 1 ≤ k → k ≤ 6 → k ≢ n) → number ≡ n → firstNo (asks 8 eight ∷ asks 9 nine ∷ []) ≡ n

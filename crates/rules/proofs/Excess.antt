@@ -1,6 +1,6 @@
 -- "the excess untouched": every operation, over settings and memory of any content, leaves the words past those that question 2 asks for.
 -- Relies on the law of an operation that asks first, and on what a turn's kinds write where its questions are answered yes.
-use Prim.Native.Nat.{ℕ, zero, suc, _<_}
+use Prim.Native.Nat.{ℕ, zero, suc, _≤_, _<_}
 use mathlib.Core.Path.{_≡_, _∙_}
 use mathlib.Core.Bool.{true, false}
 use mathlib.Core.List.{List, [], _∷_}
@@ -8,8 +8,9 @@ use native.Mathlib.Omega.{arith}
 use borrow.Author.Tests.{ltb-true, eqb-true}
 use Rattle.words.specs.Choice.{firstNo}
 use Rattle.words.proofs.Choice.{pick-both, both-left, both-right}
-use Rattle.settings.specs.Sizes.{levelCount}
+use Rattle.settings.specs.Sizes.{maxMoves, mostMoves, levelCount, question1}
 use Rattle.settings.specs.declared.Settings.{Settings}
+use Rattle.settings.proofs.Laws.{ranges}
 use Rattle.areas.specs.Memory.{Areas}
 use Rattle.record.specs.Layout.{Record, load, movesAt}
 use Rattle.record.specs.Fits.{fits}
@@ -17,11 +18,12 @@ use Rattle.record.proofs.Pieces.{first-sized}
 use Rattle.rules.specs.Opening.{openedAreas}
 use Rattle.rules.specs.Acts.{act}
 use Rattle.rules.specs.Asked.{question4, question6, question7, question9}
-use Rattle.rules.specs.Operations.{Result, unlessRefused, memoryOf, recordOf, withRecord, opening, startQuestions, startedAreas, start, turnQuestions, taken, fullRecord, full, turn, lastAnswer}
-use Rattle.rules.specs.Lists.{State, state, after, visits, endState, turnsResult, turns}
+use Rattle.rules.specs.Operations.{AtWidth, Result, unlessRefused, memoryOf, recordOf, withRecord, opening, startQuestions, startedAreas, start, turnQuestions, taken, fullRecord, full, turn, lastAnswer}
+use Rattle.rules.specs.Lists.{State, state, after, visits, endState, turnsResult, listQuestions, turns}
 use Rattle.rules.specs.Excess.{Untouched, ExcessStays}
 use Rattle.rules.proofs.Questions.{first-later}
 use Rattle.rules.proofs.TurnAsked.{TurnAsked, turn-asked}
+use Rattle.rules.proofs.Dims.{width-of}
 use Rattle.rules.proofs.Invariant.{SameSizes}
 use Rattle.rules.proofs.ExcessWords.{same-refl, same-then, same-fill, same-level}
 use Rattle.rules.proofs.ExcessRecords.{FitWords, same-store, fit-none, fit-few, few-moves}
@@ -54,7 +56,7 @@ unfolding unlessRefused
 unless-untouched {w} {s} {a} n done f = pick-both (λ (r : Result). Untouched w s a (r .areas)) _ (λ e. f (eqb-true n 0 e)) (λ e. untouched-refl w s a)
 
 -- another record of a worker below workers
-with-record : (w : ℕ) (s : Settings) (i : ℕ) (r : Record) (a : Areas) → FitWords w (r .moves) → question4 s i ≡ true → Untouched w s a (withRecord w i r a)
+with-record : (w : ℕ) (s : Settings) (i : ℕ) (r : Record) (a : Areas) → FitWords (r .moves) → question4 s i ≡ true → Untouched w s a (withRecord i r a)
 unfolding question4
 with-record w s i r a f q = record { nodes = same-refl _ _; levels = same-refl _ _; workers = same-store w r i (a .workers) f (ltb-true _ _ q) }
 
@@ -73,7 +75,7 @@ module _ (w : ℕ) (s : Settings) where
 
   start-untouched : (i row column : ℕ) (a : Areas) → Untouched w s a (start w s i row column a .areas)
   unfolding start startQuestions startedAreas
-  start-untouched i row column a = unless-untouched _ _ (λ z. with-record w s i _ a (fit-none w) (below z))
+  start-untouched i row column a = unless-untouched _ _ (λ z. with-record w s i _ a (fit-none) (below z))
     where
       below : firstNo (startQuestions w s i row column a) ≡ 0 → question4 s i ≡ true
       below z =
@@ -83,38 +85,39 @@ module _ (w : ℕ) (s : Settings) where
           first-later 4 _ _ (λ y. omega arith) e₃ .0
 
   -- the Moves of a record that fits, of a worker with a call open
-  loaded : (l : List ℕ) (i : ℕ) → fits w s (load w l i) ≡ true → question7 (load w l i) ≡ false → FitWords w (load w l i .moves)
+  loaded : maxMoves w ≤ mostMoves → (l : List ℕ) (i : ℕ) → fits w s (load l i) ≡ true → question7 (load l i) ≡ false → FitWords (load l i .moves)
   unfolding fits question7 load
-  loaded l i e b = fit-few w (load w l i .moves) (first-sized w l i (movesAt w l i)) (few-moves w s _ (load w l i) b e)
+  loaded k l i e b = fit-few w k (load l i .moves) (first-sized l i (movesAt l i)) (few-moves w s _ (load l i) b e)
 
   -- a turn whose questions are all answered yes
-  pub act-leaves : (i : ℕ) (a : Areas) → TurnAsked w s i a 0 → Leaves w s (memoryOf a) (act w s (recordOf w a i) (memoryOf a))
+  pub act-leaves : maxMoves w ≤ mostMoves → (i : ℕ) (a : Areas) → TurnAsked w s i a 0 → Leaves w s (memoryOf a) (act w s (recordOf a i) (memoryOf a))
   unfolding act question6 question9
-  act-leaves i a y =
-      let r : Record = recordOf w a i in
-      kind-leaves w s (y .three) (r .head) (memoryOf a) (r .head .kind) (r .moves) (loaded (a .workers) i (both-left _ _ (y .six)) (y .busy)) (both-right _ _ (y .six)) (first-later 9 _ _ (λ z. omega arith) (y .nine) .0)
+  act-leaves k i a y =
+      let r : Record = recordOf a i in
+      kind-leaves w k s (y .three) (r .head) (memoryOf a) (r .head .kind) (r .moves) (loaded k (a .workers) i (both-left _ _ (y .six)) (y .busy)) (both-right _ _ (y .six)) (first-later 9 _ _ (λ z. omega arith) (y .nine) .0)
 
   -- a turn leaves the excess and the sizes
   record Turned (a : Areas) (r : Result) : Type 0 where
     pub areas : Untouched w s a (r .areas)
     pub sizes : SameSizes s (r .reply .settings)
 
-  turn-untouched : (i : ℕ) (a : Areas) → Turned a (turn w s i a)
+  -- the Moves' room is needed only where question 1 is answered yes
+  turn-untouched : (question1 s ≡ true → maxMoves w ≤ mostMoves) → (i : ℕ) (a : Areas) → Turned a (turn w s i a)
   unfolding turn unlessRefused full fullRecord taken
-  turn-untouched i a =
+  turn-untouched few i a =
       pick-both (Turned a) _
       (λ e. is-full (eqb-true _ _ e))
       (λ e. pick-both (Turned a) _ (λ z. is-taken (eqb-true _ _ z)) (λ z. record { areas = untouched-refl w s a; sizes = sizes-same s }))
     where
-      is-full : firstNo (turnQuestions w s i a) ≡ 9 → Turned a (full w s i a)
+      is-full : firstNo (turnQuestions w s i a) ≡ 9 → Turned a (full s i a)
       is-full e =
           let y = turn-asked w s i a (λ k l h z. omega arith) e in
-          record { areas = with-record w s i _ a (fit-none w) (y .four); sizes = sizes-same s }
+          record { areas = with-record w s i _ a (fit-none) (y .four); sizes = sizes-same s }
 
-      is-taken : firstNo (turnQuestions w s i a) ≡ 0 → Turned a (taken w (act w s (recordOf w a i) (memoryOf a)) i (a .workers))
+      is-taken : firstNo (turnQuestions w s i a) ≡ 0 → Turned a (taken (act w s (recordOf a i) (memoryOf a)) i (a .workers))
       is-taken e =
           let y = turn-asked w s i a (λ k l h z. omega arith) e in
-          let t = act-leaves i a y in
+          let t = act-leaves (few (y .one)) i a y in
           record {
             areas = record { nodes = t .memory .nodes; levels = t .memory .levels; workers = with-record w s i _ a (t .moves) (y .four) .workers };
             sizes = t .sizes;
@@ -122,27 +125,32 @@ module _ (w : ℕ) (s : Settings) where
 
 -- sizes that stay twice stay
 sizes-then : {s s′ s″ : Settings} → SameSizes s s′ → SameSizes s′ s″ → SameSizes s s″
-sizes-then p q = record { workers-is = q .workers-is ∙ p .workers-is; limit-is = q .limit-is ∙ p .limit-is; nodes-is = q .nodes-is ∙ p .nodes-is }
+sizes-then p q = record { width-is = q .width-is ∙ p .width-is; workers-is = q .workers-is ∙ p .workers-is; limit-is = q .limit-is ∙ p .limit-is; nodes-is = q .nodes-is ∙ p .nodes-is }
 
 -- the entries of a list that are reached
-end-untouched : (w : ℕ) (s : Settings) (l : List ℕ) (n : ℕ) (x : State) → SameSizes s (x .settings) → Untouched w s (x .areas) (endState w x (visits w l n x) .areas)
+end-untouched : (w : ℕ) → maxMoves w ≤ mostMoves → (s : Settings) (l : List ℕ) (n : ℕ) (x : State) → SameSizes s (x .settings) → Untouched w s (x .areas) (endState w x (visits w l n x) .areas)
 unfolding endState visits
-end-untouched w s [] n x z = untouched-refl w s (x .areas)
-end-untouched w s (i ∷ l) zero x z = untouched-refl w s (x .areas)
-end-untouched w s (i ∷ l) (suc n) x z =
-    let t = turn-untouched w (x .settings) i (x .areas) in
-    untouched-then (untouched-sizes w z (t .areas)) (end-untouched w s l _ (after (turn w (x .settings) i (x .areas))) (sizes-then z (t .sizes)))
+end-untouched w few s [] n x z = untouched-refl w s (x .areas)
+end-untouched w few s (i ∷ l) zero x z = untouched-refl w s (x .areas)
+end-untouched w few s (i ∷ l) (suc n) x z =
+    let t = turn-untouched w (x .settings) (λ q. few) i (x .areas) in
+    untouched-then (untouched-sizes w z (t .areas)) (end-untouched w few s l _ (after (turn w (x .settings) i (x .areas))) (sizes-then z (t .sizes)))
 
-turns-untouched : (w : ℕ) (s : Settings) (l : List ℕ) (limit : ℕ) (a : Areas) → Untouched w s a (turns w s l limit a .areas)
-unfolding turns turnsResult
-turns-untouched w s l limit a = unless-untouched _ _ (λ z. end-untouched w s l limit (state s a) (sizes-same s))
+turns-untouched : (w : ℕ) (s : Settings) → (question1 s ≡ true → maxMoves w ≤ mostMoves) → (l : List ℕ) (limit : ℕ) (a : Areas) → Untouched w s a (turns w s l limit a .areas)
+unfolding turns turnsResult listQuestions
+turns-untouched w s few l limit a =
+    unless-untouched _ _ (λ z. end-untouched w (few (first-later 1 _ _ (λ y. omega arith) z .0)) s l limit (state s a) (sizes-same s))
 
-pub excess-stays : (w : ℕ) → ExcessStays w
-excess-stays w =
+-- the Moves of a width that question 1 lets pass have room
+pub moves-fit : (s : Settings) → question1 s ≡ true → maxMoves (s .width) ≤ mostMoves
+moves-fit s q = width-of (ranges s q .width) .few
+
+pub excess-stays : AtWidth ExcessStays
+excess-stays s =
     record {
-      of-opening = opening-untouched w;
-      of-start = start-untouched w;
-      of-turn = λ s i a. turn-untouched w s i a .areas;
-      of-turns = turns-untouched w;
-      of-last = last-untouched w;
+      of-opening = opening-untouched (s .width) s;
+      of-start = start-untouched (s .width) s;
+      of-turn = λ i a. turn-untouched (s .width) s (moves-fit s) i a .areas;
+      of-turns = turns-untouched (s .width) s (moves-fit s);
+      of-last = last-untouched (s .width) s;
     }

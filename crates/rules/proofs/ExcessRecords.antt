@@ -10,7 +10,7 @@ use lib.Dec.{eqb, leb}
 use lib.ListN.{getD, length, length-set}
 use borrow.Author.Tests.{leb-true, eqb-true}
 use Rattle.words.proofs.Choice.{pick-both, pick-false, both-right, true-false}
-use Rattle.settings.specs.Sizes.{headWords, moveWords, maxMoves, workerWords}
+use Rattle.settings.specs.Sizes.{headWords, moveWords, maxMoves, mostMoves, workerWords}
 use Rattle.settings.specs.declared.Settings.{Settings}
 use Rattle.record.specs.declared.Move.{Move}
 use Rattle.record.specs.Layout.{Record, newMove, workerPlace, storeHead, store}
@@ -23,33 +23,33 @@ use Rattle.rules.specs.Acts.{inner, outer}
 use Rattle.rules.specs.Excess.{SameFrom}
 
 -- Moves that a worker's words have room for
-pub record FitWords (w : ℕ) (ms : List Move) : Type 0 where
+pub record FitWords (ms : List Move) : Type 0 where
   pub sized : AllSized ms
-  pub room : headWords + moveWords * length ms ≤ workerWords w
+  pub room : headWords + moveWords * length ms ≤ workerWords
 
 -- what lies outside of the worker's words stays
-pub store-others : (w : ℕ) (r : Record) (i : ℕ) (l : List ℕ) → FitWords w (r .moves) → (k : ℕ) → (k < workerWords w * i) ⊎ (workerWords w * i + workerWords w ≤ k) → getD (store w r i l) k 0 ≡ getD l k 0
+pub store-others : (w : ℕ) (r : Record) (i : ℕ) (l : List ℕ) → FitWords (r .moves) → (k : ℕ) → (k < workerWords * i) ⊎ (workerWords * i + workerWords ≤ k) → getD (store r i l) k 0 ≡ getD l k 0
 unfolding store workerPlace
 store-others w r i l f k (inl h) =
-    moves-outside w i (r .moves) (storeHead w (r .head) (length (r .moves)) i l) k (f .sized) (before (omega arith))
-    ∙ head-outside w (r .head) (length (r .moves)) i l k (before h)
+    moves-outside w i (r .moves) (storeHead (r .head) (length (r .moves)) i l) k (f .sized) (before (omega arith))
+    ∙ head-outside (r .head) (length (r .moves)) i l k (before h)
 store-others w r i l f k (inr h) =
-    let c : headWords + moveWords * length (r .moves) ≤ workerWords w = f .room in
-    moves-outside w i (r .moves) (storeHead w (r .head) (length (r .moves)) i l) k (f .sized) (after (omega arith))
-    ∙ head-outside w (r .head) (length (r .moves)) i l k (after (omega arith))
+    let c : headWords + moveWords * length (r .moves) ≤ workerWords = f .room in
+    moves-outside w i (r .moves) (storeHead (r .head) (length (r .moves)) i l) k (f .sized) (after (omega arith))
+    ∙ head-outside (r .head) (length (r .moves)) i l k (after (omega arith))
 
 -- the record of one of the first n workers
-pub same-store : (w : ℕ) {n : ℕ} (r : Record) (i : ℕ) (l : List ℕ) → FitWords w (r .moves) → i < n → SameFrom (workerWords w * n) l (store w r i l)
+pub same-store : (w : ℕ) {n : ℕ} (r : Record) (i : ℕ) (l : List ℕ) → FitWords (r .moves) → i < n → SameFrom (workerWords * n) l (store r i l)
 same-store w {n} r i l f h =
-    let t = place-next w h in record { size = length-store w r i l; words = λ k g. store-others w r i l f k (inr (omega arith)) }
+    let t = place-next h in record { size = length-store w r i l; words = λ k g. store-others w r i l f k (inr (omega arith)) }
 
 -- no Move
-pub fit-none : (w : ℕ) → FitWords w []
-fit-none w = record { sized = tt; room = let r = room w in omega arith }
+pub fit-none : FitWords []
+fit-none = record { sized = tt; room = let r = room in omega arith }
 
 -- as many as may be one inside another
-pub fit-few : (w : ℕ) (ms : List Move) → AllSized ms → length ms ≤ maxMoves w → FitWords w ms
-fit-few w ms z l = record { sized = z; room = let r = room w in omega arith }
+pub fit-few : (w : ℕ) → maxMoves w ≤ mostMoves → (ms : List Move) → AllSized ms → length ms ≤ maxMoves w → FitWords ms
+fit-few w k ms z l = record { sized = z; room = let r = room in omega arith }
 
 -- a record that fits, of a worker that is not idle, has few enough
 pub few-moves : (w : ℕ) (s : Settings) (k : ℕ) (r : Record) → eqb k 0 ≡ false → fitsBy w s k r ≡ true → length (r .moves) ≤ maxMoves w
@@ -63,40 +63,35 @@ few-moves w s k r z e =
     moving : movingFits w s k (r .moves) ≡ true → length (r .moves) ≤ maxMoves w
     moving = pick-both (λ b. b ≡ true → length (r .moves) ≤ maxMoves w) (leb (length (r .moves)) (maxMoves w)) (λ t y. leb-true _ _ t) (λ t y. absurd (true-false (sym y)))
 
--- a worker's words are at least these: one Move and two have room in any case
-at-least : (w : ℕ) → 128 ≤ workerWords w
-unfolding workerWords
-at-least w = omega arith
-
 module _ (w : ℕ) where
-  pub one-move : (home child : ℕ) → FitWords w (newMove home child ∷ [])
-  one-move home child = record { sized = (new-sized home child, tt); room = let b = at-least w in omega arith }
+  pub one-move : (home child : ℕ) → FitWords (newMove home child ∷ [])
+  one-move home child = record { sized = (new-sized home child, tt); room = omega arith }
 
   -- the innermost Move and those around it
-  pub whole : (ms : List Move) → FitWords w ms → FitWords w (inner ms ∷ outer ms)
+  pub whole : (ms : List Move) → FitWords ms → FitWords (inner ms ∷ outer ms)
   unfolding inner outer
   whole [] f = one-move 0 0
   whole (v ∷ os) f = f
 
-  pub around : (ms : List Move) → FitWords w ms → FitWords w (outer ms)
+  pub around : (ms : List Move) → FitWords ms → FitWords (outer ms)
   unfolding outer
   around [] f = f
   around (v ∷ os) f = record { sized = f .sized .1; room = let r = f .room in omega arith }
 
   -- one Move more
-  pub pushed : (ms : List Move) (home child : ℕ) → FitWords w ms → length ms < maxMoves w → FitWords w (newMove home child ∷ inner ms ∷ outer ms)
+  pub pushed : maxMoves w ≤ mostMoves → (ms : List Move) (home child : ℕ) → FitWords ms → length ms < maxMoves w → FitWords (newMove home child ∷ inner ms ∷ outer ms)
   unfolding inner outer
-  pushed [] home child f l = record { sized = (new-sized home child, (new-sized 0 0, tt)); room = let b = at-least w in omega arith }
-  pushed (v ∷ os) home child f l = record { sized = (new-sized home child, f .sized); room = let r = room w in omega arith }
+  pushed k [] home child f l = record { sized = (new-sized home child, (new-sized 0 0, tt)); room = omega arith }
+  pushed k (v ∷ os) home child f l = record { sized = (new-sized home child, f .sized); room = let r = room in omega arith }
 
   -- the innermost Move with as many words
-  changed : {v v′ : Move} {os : List Move} → length (v′ .nodes) ≡ length (v .nodes) → FitWords w (v ∷ os) → FitWords w (v′ ∷ os)
+  changed : {v v′ : Move} {os : List Move} → length (v′ .nodes) ≡ length (v .nodes) → FitWords (v ∷ os) → FitWords (v′ ∷ os)
   changed e f = record { sized = (e ∙ f .sized .0, f .sized .1); room = f .room }
 
-  pub remembered : {v : Move} {os : List Move} (i : ℕ) → FitWords w (v ∷ os) → FitWords w (remember i v ∷ os)
+  pub remembered : {v : Move} {os : List Move} (i : ℕ) → FitWords (v ∷ os) → FitWords (remember i v ∷ os)
   unfolding remember
   remembered {v} i = changed (length-set (v .nodes) (v .count) i)
 
-  pub forgotten : {v : Move} {os : List Move} → FitWords w (v ∷ os) → FitWords w (forget v ∷ os)
+  pub forgotten : {v : Move} {os : List Move} → FitWords (v ∷ os) → FitWords (forget v ∷ os)
   unfolding forget
   forgotten = changed refl

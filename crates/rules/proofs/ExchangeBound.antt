@@ -1,30 +1,31 @@
 -- Failed exchanges are at most placing workers − 1 times the done ones, and a worker that has the turns to itself fails none unless it is doomed.
 -- Relies on who is doomed after an event, and on sums over operations.
 use Prim.Native.Nat.{ℕ, zero, suc, _+_, _*_, _-_, _≤_, _<_}
-use mathlib.Core.Path.{_≡_, refl, sym, ap, _∙_}
+use mathlib.Core.Path.{_≡_, refl, sym, ap, subst, _∙_}
 use mathlib.Core.Logic.{_≢_, inl, inr}
 use mathlib.Core.List.{List, [], _∷_}
 use native.Mathlib.Nat.{mul-suc}
 use native.Mathlib.Decide.{ℕ-discrete, decLt}
 use native.Mathlib.Omega.{arith}
 use Rattle.words.specs.Choice.{pick}
-use Rattle.words.proofs.Choice.{pick-both, both-left}
+use Rattle.words.proofs.Choice.{pick-both, both-left, both-right}
 use Rattle.settings.specs.Sizes.{maxWorkers, question1}
 use Rattle.settings.specs.declared.Settings.{Settings}
 use Rattle.settings.proofs.Laws.{within-true}
 use Rattle.areas.specs.Memory.{Areas}
+use Rattle.record.specs.declared.Exchange.{Exchange}
 use Rattle.rules.specs.Operations.{opening, start, turn}
 use Rattle.rules.specs.Lists.{State, after}
 use Rattle.rules.specs.Calls.{Event, turns, happens, stateAfter}
 use Rattle.rules.specs.Alone.{turnsOf}
-use Rattle.rules.specs.Sequences.{Operation, leftBy, sinceOpening}
+use Rattle.rules.specs.Sequences.{Operation, performs, leftBy, sinceOpening}
 use Rattle.rules.specs.Exchanges.{doneIn, failedIn, total, doomed, failures, successes}
-use Rattle.rules.specs.ExchangeBound.{placing, failedSince, doneSince, Bounded, BoundStatement}
+use Rattle.rules.specs.ExchangeBound.{placing, sumSince, Bounded, BoundStatement}
 use Rattle.trie.proofs.Update.{upd, upd-same}
 use Rattle.trie.proofs.Dooms.{dooms}
 use Rattle.trie.proofs.Advance.{numbers}
 use Rattle.trie.proofs.Whole.{Worker}
-use Rattle.rules.proofs.Dims.{Width, width-3}
+use Rattle.rules.proofs.Dims.{Width}
 use Rattle.rules.proofs.Invariant.{WorldOf, Fine, at}
 use Rattle.rules.proofs.Refused.{refuses-opening, refuses-start}
 use Rattle.rules.proofs.Carried.{opening-done, start-done}
@@ -34,7 +35,7 @@ use Rattle.rules.proofs.Theorem.{opening-yes}
 use Rattle.rules.proofs.OneTurn.{turn-leaves}
 use Rattle.rules.proofs.TurnEvent.{turn-open}
 use Rattle.rules.proofs.FineQuestions.{yes-1, worker-of}
-use Rattle.rules.proofs.Operated.{Comes, comes-opened, comes-all}
+use Rattle.rules.proofs.Operated.{Comes, ComesAt, comes-width, began-width, here-width, comes-opened, comes-all}
 use Rattle.rules.proofs.Exchanges.{none-failed}
 use Rattle.rules.proofs.ExchangeCounts.{counts}
 use Rattle.rules.proofs.ExchangeEvents.{doomedAmong, turn-counted, event-counted, none-doomed}
@@ -101,7 +102,7 @@ outside-fails w s₀ i (suc k) x W ws F n =
     let u = outside-fails w s₀ i k x W ws F n in
     omega arith
 
-module _ {w : ℕ} (width : Width w) where
+module _ {w : ℕ} where
   -- whoever is not doomed by the words is not doomed in the theory
   alone-fails : {s₀ : Settings} {x : State} {W : WorldOf w s₀} {ws : ℕ → Worker} → Fine w s₀ x W ws → (i k : ℕ) → failures w (turnsOf i k) x ≤ pick (doomed w i x) 1 0
   unfolding doomed
@@ -122,7 +123,7 @@ module _ {w : ℕ} (width : Width w) where
   -- there is one
   some-placing : {s₀ : Settings} {x : State} {W : WorldOf w s₀} {ws : ℕ → Worker} → Fine w s₀ x W ws → placing (x .settings) ≢ 0
   unfolding placing question1
-  some-placing {x = x} F z = let b = within-true (x .settings .workers) maxWorkers (both-left _ _ (yes-1 F)) .low in omega arith
+  some-placing {x = x} F z = let b = within-true (x .settings .workers) maxWorkers (both-left _ _ (both-right _ _ (yes-1 F))) .low in omega arith
 
   -- a start leaves its worker free
   started-fails : {s₀ : Settings} {x : State} {W : WorldOf w s₀} {ws : ℕ → Worker} → Fine w s₀ x W ws → (i row column k : ℕ) → start w (x .settings) i row column (x .areas) .reply .number ≡ 0 → failures w (turnsOf i k) (after (start w (x .settings) i row column (x .areas))) ≡ 0
@@ -133,42 +134,50 @@ module _ {w : ℕ} (width : Width w) where
       rw (start-done w (x .settings) i row column (x .areas) z)
       (none-of (inside-fails w s₀ i k _ W (upd ws i c) (fine-started F i row column h (y .inside))) (rw (upd-same ws i c) refl))
 
-  -- of a state that came of a carried out opening
-  bounded-at : {x : State} → Comes w (record { began = x; events = [] }) x → (os : List Operation) → Bounded w x os
-  bounded-at {x} c₀ os =
-      record {
-        bound = rw (failed, done, same-placing fine) (omega (arith, r .bound));
-        none = λ e. absurd (some-placing fine e);
-        single = λ e. rw failed (one-fails _ _ _ (r .bound) (sym (same-placing fine) ∙ e));
-        alone = λ i k. alone-fails fine i k;
-        started = λ i row column k z. started-fails fine i row column k z;
-      }
-    where
-      c : Comes w (sinceOpening w os x) (leftBy w os x)
-      c = comes-all os c₀
+-- of a state that came of a carried out opening
+bounded-at : {x : State} → ComesAt (record { began = x; events = [] }) x → (os : List Operation) → Bounded x os
+unfolding performs
+bounded-at {x} c₀ os =
+    record {
+      bound = rw (sum failedIn, sum doneIn, same-placing fine) (omega (arith, r .bound));
+      none = λ e. absurd (some-placing fine e);
+      single = λ e. rw (sum failedIn) (one-fails _ _ _ (r .bound) (sym (same-placing fine) ∙ e));
+      alone = λ i k. subst (λ (v : ℕ). failures v (turnsOf i k) left ≤ pick (doomed v i left) 1 0) (sym here) (alone-fails fine i k);
+      started = λ i row column k. subst
+          (λ (v : ℕ). start v (left .settings) i row column (left .areas) .reply .number ≡ 0 → failures v (turnsOf i k) (after (start v (left .settings) i row column (left .areas))) ≡ 0) (sym here)
+          (started-fails fine i row column k);
+    }
+  where
+    left : State
+    left = leftBy os x
 
-      es : List Event
-      es = sinceOpening w os x .events
+    w : ℕ
+    w = comes-all os c₀ .0
 
-      y : State
-      y = after (opening w (c .settings) (c .areas))
+    c : Comes w (sinceOpening os x) left
+    c = comes-all os c₀ .1
 
-      r : Run w (c .settings) es y 0
-      r = opened-runs w width (c .settings) (c .areas) (c .carried) es
+    width : Width w
+    width = comes-width c
 
-      fine : Fine w (c .settings) (leftBy w os x) (r .world) (r .workers)
-      fine = rw (← c .ends, c .began) (r .fine)
+    here : left .settings .width ≡ w
+    here = here-width c
 
-      failed : failedSince w os x ≡ failures w es y
-      failed = sum-opened failedIn w os x c₀ ∙ ap (total failedIn w es) (c .began)
+    es : List Event
+    es = sinceOpening os x .events
 
-      done : doneSince w os x ≡ successes w es y
-      done = sum-opened doneIn w os x c₀ ∙ ap (total doneIn w es) (c .began)
+    y : State
+    y = after (opening w (c .settings) (c .areas))
 
--- over every width whose digits fit the pixel numbers
-pub exchanges-bounded : (w : ℕ) → Width w → BoundStatement w
-exchanges-bounded w width s a z os = bounded-at width (comes-opened w s a z) os
+    r : Run w (c .settings) es y 0
+    r = opened-runs w width (c .settings) (c .areas) (c .carried) es
 
--- document 01's table
-pub exchanges-bounded-3 : BoundStatement 3
-exchanges-bounded-3 = exchanges-bounded 3 width-3
+    fine : Fine w (c .settings) left (r .world) (r .workers)
+    fine = subst (λ (z : State). Fine w (c .settings) z (r .world) (r .workers)) (ap (stateAfter w es) (sym (c .began)) ∙ c .ends) (r .fine)
+
+    sum : (f : Exchange → ℕ) → sumSince f os x 0 ≡ total f w es y
+    sum f = sum-opened f os x c₀ ∙ ap (λ (v : ℕ). total f v es (sinceOpening os x .began)) (began-width c) ∙ ap (total f w es) (c .began)
+
+-- along every sequence of operations from a carried out opening, at every width that question 1 lets pass
+pub exchanges-bounded : BoundStatement
+exchanges-bounded s a z os = bounded-at (comes-opened s a z) os

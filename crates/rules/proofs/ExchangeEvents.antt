@@ -135,7 +135,7 @@ module _ {w : ℕ} {s₀ : Settings} {x : State} {W : WorldOf w s₀} {ws : ℕ 
       r = turn w (x .settings) i (x .areas)
 
       e : Exchange
-      e = exchangeOf w (recordOf w (x .areas) i) (memoryOf (x .areas))
+      e = exchangeOf w (recordOf (x .areas) i) (memoryOf (x .areas))
 
       by : Dec (r .reply .number ≡ 0) → Dec (r .reply .number ≡ 9) → Counted w s₀ i W ws (after r) (pick (eqb (r .reply .number) 0) e None)
       by (yes z) d =

@@ -1,10 +1,11 @@
 -- A record that shows a worker of the invariant fits its layout: the first part of question 6.
 -- Relies on what a record shows, on the theory's clauses for the counts and the nesting of Moves.
-use Prim.Native.Nat.{ℕ, _^_, _≤_, _<_}
+use Prim.Native.Nat.{ℕ, _^_, _-_, _≤_, _<_}
 use mathlib.Core.Path.{_≡_, refl, ap, _∙_}
 use mathlib.Core.Bool.{true}
 use mathlib.Core.List.{List, [], _∷_}
 use native.Mathlib.Omega.{arith}
+use lib.ListN.{length}
 use borrow.Author.Tests.{le-leb}
 use Rattle.words.specs.Choice.{pick, both}
 use Rattle.words.specs.Digits.{base, depths, maxPixel}
@@ -27,8 +28,8 @@ use Rattle.rules.proofs.FitsCall.{local-counted, set-counted, CountFits
 use Rattle.rules.proofs.FitsMoves.{frames-sized, moves-few, moving-fits}
 
 -- no Move
-pub no-moves : (w : ℕ) (r : Record) → r .moves ≡ [] → WellFormed w r
-no-moves w r n = record { sized = rw n tt; few = rw n (omega arith) }
+pub no-moves : (r : Record) → r .moves ≡ [] → WellFormed r
+no-moves r n = record { sized = rw n tt; few = rw n (omega arith) }
 
 module _ {w : ℕ} {s₀ s : Settings} {m : Memory} {W : WorldOf w s₀} {ws : ℕ → Worker} {i : ℕ} {r : Record} (a : At w s₀ s m W ws i r) where
   pixel-le : ws i .key < base w ^ depths w → r .head .pixel ≤ maxPixel
@@ -46,20 +47,22 @@ module _ {w : ℕ} {s₀ s : Settings} {m : Memory} {W : WorldOf w s₀} {ws : �
   step-count (sets d) (theory.sets pre o n c b) = set-count (dims w (s₀ .limit)) s (r .head) (a .table .same .limit-is) d (set-counted c)
   step-count finishes (theory.finishes o n b) = off-chain s (r .head) MoveEnd refl
 
-  by-act : {t : Act} → Doing (r .head) (r .moves) t → ActOk W (owner i) (ws i .key) (ws i .since) t → WellFormed w r × (fits w s r ≡ true)
+  by-act : {t : Act} → Doing (r .head) (r .moves) t → ActOk W (owner i) (ws i .key) (ws i .since) t → WellFormed r × (fits w s r ≡ true)
   unfolding fits fitsBy maxMoves kindNo pick
-  by-act (rests k n g) is-idle = (no-moves w r n, ap (λ k. fitsBy w s (kindNo k) r) k ∙ le-leb _ _ g)
+  by-act (rests k n g) is-idle = (no-moves r n, ap (λ k. fitsBy w s (kindNo k) r) k ∙ le-leb _ _ g)
   by-act (searches {p} k n d) (is-searching small b l) =
       let (x, y) = search-no p in
       let same = a .table .same .limit-is in
-      (no-moves w r n, ap (λ k. fitsBy w s (kindNo k) r) k ∙ searching-fits w s r (kindNo (searchKind p)) x y (call-fits s (r .head) (searchKind p) (pixel-le small) (search-count (dims w (s₀ .limit)) s (r .head) same d (local-counted l))) n)
+      (no-moves r n, ap (λ k. fitsBy w s (kindNo k) r) k ∙ searching-fits w s r (kindNo (searchKind p)) x y (call-fits s (r .head) (searchKind p) (pixel-le small) (search-count (dims w (s₀ .limit)) s (r .head) same d (local-counted l))) n)
   by-act (moves {f} {fs} {s = p} k g c) (is-moving small b l) =
       let S = a .inv .structure in
       let same = a .table .same .limit-is in
-      (record { sized = frames-sized g; few = moves-few S g l }, ap (λ k. fitsBy w s (kindNo k) r) k ∙ moving-fits S w s r refl same g l (call-fits s (r .head) (stepKind f p) (pixel-le small) (step-count c l)))
+      let n : length (r .moves) ≤ depths w - 1 = moves-few S g l in
+      let q = a .table .width .few in
+      (record { sized = frames-sized g; few = omega arith }, ap (λ k. fitsBy w s (kindNo k) r) k ∙ moving-fits S w s r refl same g l (call-fits s (r .head) (stepKind f p) (pixel-le small) (step-count c l)))
 
   -- Moves one inside another are at most depths - 1, and each has room for the nodes it remembers
-  pub well-formed : WellFormed w r
+  pub well-formed : WellFormed r
   well-formed = by-act (a .matches .doing) (a .inv .each i .acts) .0
 
   pub fits-ok : fits w s r ≡ true

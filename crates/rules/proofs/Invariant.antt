@@ -32,6 +32,7 @@ use Rattle.rules.proofs.Matches.{Matches}
 
 -- the settings that do not change: s₀ are those that the opening gave
 pub record SameSizes (s₀ s : Settings) : Type 0 where
+  pub width-is : s .width ≡ s₀ .width
   pub workers-is : s .workers ≡ s₀ .workers
   pub limit-is : s .limit ≡ s₀ .limit
   pub nodes-is : s .nodes ≡ s₀ .nodes
@@ -90,10 +91,10 @@ pub record TurnOk (w : ℕ) (s₀ : Settings) (W : WorldOf w s₀) (ws : ℕ →
 -- the state between two operations
 pub record Fine (w : ℕ) (s₀ : Settings) (x : State) (W : WorldOf w s₀) (ws : ℕ → Worker) : Type 0 where
   pub table : Table w s₀ (x .settings) (memoryOf (x .areas)) W
-  pub room : workerWords w * s₀ .workers ≤ length (x .areas .workers)
+  pub room : workerWords * s₀ .workers ≤ length (x .areas .workers)
   pub inv : Inv W ws
   pub levels : Levels W ws (s₀ .workers) (x .settings .«levels_taken»)
-  pub records : (i : ℕ) → i < s₀ .workers → Matches (recordOf w (x .areas) i) (ws i)
+  pub records : (i : ℕ) → i < s₀ .workers → Matches (recordOf (x .areas) i) (ws i)
 
-pub at : {w : ℕ} {s₀ : Settings} {x : State} {W : WorldOf w s₀} {ws : ℕ → Worker} → Fine w s₀ x W ws → (i : ℕ) → i < s₀ .workers → At w s₀ (x .settings) (memoryOf (x .areas)) W ws i (recordOf w (x .areas) i)
+pub at : {w : ℕ} {s₀ : Settings} {x : State} {W : WorldOf w s₀} {ws : ℕ → Worker} → Fine w s₀ x W ws → (i : ℕ) → i < s₀ .workers → At w s₀ (x .settings) (memoryOf (x .areas)) W ws i (recordOf (x .areas) i)
 at f i h = record { table = f .table; inv = f .inv; levels = f .levels; here = h; matches = f .records i h }

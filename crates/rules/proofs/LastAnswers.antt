@@ -26,13 +26,13 @@ use Rattle.rules.specs.Heads.{started, ended}
 use Rattle.rules.specs.Steps.{Step}
 use Rattle.rules.specs.Acts.{act}
 use Rattle.rules.specs.Asked.{question4, question6Record, question7, question8, question9}
-use Rattle.rules.specs.Operations.{Result, result, reply, recordOf, memoryOf, question2Of, openingQuestions, startedAreas, start, turnQuestions, taken, full, fullRecord, turn, lastQuestions, lastOf, lastAnswer}
+use Rattle.rules.specs.Operations.{AtWidth, Result, result, reply, recordOf, memoryOf, question2Of, openingQuestions, startedAreas, start, turnQuestions, taken, full, fullRecord, turn, lastQuestions, lastOf, lastAnswer}
 use Rattle.rules.specs.Lists.{State, after}
 use Rattle.rules.specs.Calls.{Event, starts, turns, happens, history, stateAfter, Call, Opened}
 use Rattle.rules.specs.Refusals.{AllYes}
 use Rattle.rules.specs.LastAnswers.{endTold, toldBy, told, ReadsTold, LastAnswers}
 use Rattle.trie.proofs.Update.{upd-same}
-use Rattle.rules.proofs.Dims.{Width, width-3}
+use Rattle.rules.proofs.Dims.{Width}
 use Rattle.rules.proofs.Questions.{unless-carried, all-yes}
 use Rattle.rules.proofs.Carried.{opening-done, start-done}
 use Rattle.rules.proofs.OneTurn.{done-number, nine-is-full, turn-refused, refuses-turn}
@@ -46,6 +46,7 @@ use Rattle.rules.proofs.Along.{Along, below}
 use Rattle.rules.proofs.Opened.{opened-record, along-opened}
 use Rattle.rules.proofs.Sequence.{event-along, run-along}
 use Rattle.rules.proofs.Tells.{Said, says-open, says-new, says-found, Tells, act-tells}
+use Rattle.rules.proofs.Theorem.{opened-width}
 
 -- the last answer after an event, by cases
 module _ (i j : ℕ) (r : Reply) (b : Answer) where
@@ -75,15 +76,15 @@ module _ (i j : ℕ) (r : Reply) (b : Answer) where
 
 -- a record that is stored: its own head is there again, the head of another worker stays
 module _ (w : ℕ) (r : Record) (i j : ℕ) (l : List ℕ) where
-  pub own-head : j ≡ i → workerPlace w i + 10 ≤ length l → load w (store w r j l) i .head ≡ r .head
+  pub own-head : j ≡ i → workerPlace i + 10 ≤ length l → load (store r j l) i .head ≡ r .head
   unfolding load
   own-head e h = rw e (head-stored w r i l h)
 
-  pub other-head : WellFormed w r → j ≢ i → load w (store w r j l) i .head ≡ load w l i .head
+  pub other-head : WellFormed r → j ≢ i → load (store r j l) i .head ≡ load l i .head
   unfolding load headAt workerPlace
   other-head f d =
-      let b = word-room w in
-      ap headFrom (cells-same (store w r j l) l (workerWords w * i) 9 (λ k g. store-other w r j i l f (λ e. d (sym e)) k (omega arith)))
+      let b = word-room in
+      ap headFrom (cells-same (store r j l) l (workerWords * i) 9 (λ k g. store-other w r j i l f (λ e. d (sym e)) k (omega arith)))
 
 -- what heads tell
 started-tells : (p : ℕ) (h : Head) → lastOf (started p h) ≡ Open
@@ -110,18 +111,18 @@ end-told b (says-new n) e = refl
 end-told b (says-found n) e = refl
 
 -- a record without Moves
-pub alone : (w : ℕ) (h : Head) → WellFormed w (record′ h [])
-alone w h = no-moves w (record′ h []) refl
+pub alone : (h : Head) → WellFormed (record′ h [])
+alone h = no-moves (record′ h []) refl
 
-pub full-formed : (w : ℕ) (h : Head) → WellFormed w (fullRecord h)
+pub full-formed : (h : Head) → WellFormed (fullRecord h)
 unfolding fullRecord
-full-formed w h = alone w (ended 3 0 (h .«held_node») h)
+full-formed h = alone (ended 3 0 (h .«held_node») h)
 
 -- the yes of a turn's questions that are used
 pub record TurnYes (w : ℕ) (x : State) (j : ℕ) : Type 0 where
   pub below : question4 (x .settings) j ≡ true
-  pub open8 : question8 (recordOf w (x .areas) j) ≡ true
-  pub left9 : question9 (x .settings) (recordOf w (x .areas) j) ≡ true
+  pub open8 : question8 (recordOf (x .areas) j) ≡ true
+  pub left9 : question9 (x .settings) (recordOf (x .areas) j) ≡ true
 
 pub turn-yes : (w : ℕ) (x : State) (j : ℕ) → AllYes (turnQuestions w (x .settings) j (x .areas)) → TurnYes w x j
 unfolding turnQuestions every
@@ -137,25 +138,25 @@ turn-yes w x j y =
 module _ {w : ℕ} {s₀ : Settings} {x : State} {k : ℕ} {os : List Opened} {cs : List Call} (a : Along w s₀ x k os cs) (i : ℕ) (here : i < s₀ .workers) where
   -- what worker i's record tells
   abbrev last : State → Answer
-  last y = lastOf (recordOf w (y .areas) i .head)
+  last y = lastOf (recordOf (y .areas) i .head)
 
   -- after an event it tells what the event's reply tells
   abbrev ToldAfter : Event → Result → Type 0
   ToldAfter e r = last (after r) ≡ toldBy i e (r .reply) (last x)
 
-  pub place-room : workerPlace w i + 10 ≤ length (x .areas .workers)
+  pub place-room : workerPlace i + 10 ≤ length (x .areas .workers)
   unfolding workerPlace
-  place-room = let n = place-next w here in let g = a .fine .room in let b = word-room w in omega arith
+  place-room = let n = place-next here in let g = a .fine .room in let b = word-room in omega arith
 
   -- a start
   module _ (j row column : ℕ) where
     abbrev begun : Result
     begun = start w (x .settings) j row column (x .areas)
 
-    start-done-told : Dec (j ≡ i) → ToldAfter (starts j row column) (result (reply 0 Open 0 (x .settings)) (startedAreas w j row column (x .areas)))
+    start-done-told : Dec (j ≡ i) → ToldAfter (starts j row column) (result (reply 0 Open 0 (x .settings)) (startedAreas j row column (x .areas)))
     unfolding startedAreas
     start-done-told (yes e) = ap lastOf (own-head w _ i j (x .areas .workers) e place-room) ∙ (started-tells _ _ ∙ sym (told-start i j _ _ row column e refl))
-    start-done-told (no d) = ap lastOf (other-head w _ i j (x .areas .workers) (alone w _) d) ∙ sym (told-other-start i j _ _ row column d)
+    start-done-told (no d) = ap lastOf (other-head w _ i j (x .areas .workers) (alone _) d) ∙ sym (told-other-start i j _ _ row column d)
 
     start-told : ToldAfter (starts j row column) begun
     start-told = by (ℕ-discrete (begun .reply .number) 0)
@@ -170,28 +171,28 @@ module _ {w : ℕ} {s₀ : Settings} {x : State} {k : ℕ} {os : List Opened} {c
     turned = turn w (x .settings) j (x .areas)
 
     abbrev stepped : Step
-    stepped = act w (x .settings) (recordOf w (x .areas) j) (memoryOf (x .areas))
+    stepped = act w (x .settings) (recordOf (x .areas) j) (memoryOf (x .areas))
 
-    full-told : Dec (j ≡ i) → ToldAfter (turns j) (full w (x .settings) j (x .areas))
+    full-told : Dec (j ≡ i) → ToldAfter (turns j) (full (x .settings) j (x .areas))
     unfolding full endTold
     full-told (yes e) = ap lastOf (own-head w _ i j (x .areas .workers) e place-room) ∙ (full-tells _ ∙ sym (told-turn i j _ _ e))
-    full-told (no d) = ap lastOf (other-head w _ i j (x .areas .workers) (full-formed w _) d) ∙ sym (told-other-turn i j _ _ d)
+    full-told (no d) = ap lastOf (other-head w _ i j (x .areas .workers) (full-formed _) d) ∙ sym (told-other-turn i j _ _ d)
 
     -- the record after a turn of the table's worker has room in its words
-    pub formed : TurnYes w x j → WellFormed w (stepped .record′)
+    pub formed : TurnYes w x j → WellFormed (stepped .record′)
     formed y =
         let h = below a (y .below) in
-        let K = turn-ok (at (a .fine) j h) (busy-of (recordOf w (x .areas) j) (y .open8)) (y .left9) in
+        let K = turn-ok (at (a .fine) j h) (busy-of (recordOf (x .areas) j) (y .open8)) (y .left9) in
         well-formed (record { table = K .table; inv = K .inv; levels = K .levels; here = h; matches = rw (upd-same (a .workers) j (K .worker)) (K .matches) })
 
     -- before a turn that is carried out its worker's call is open
     was-open : TurnYes w x j → j ≡ i → last x ≡ Open
-    was-open y e = subst (λ n. lastOf (recordOf w (x .areas) n .head) ≡ Open) e (busy-tells (recordOf w (x .areas) j) (busy-of (recordOf w (x .areas) j) (y .open8)))
+    was-open y e = subst (λ n. lastOf (recordOf (x .areas) n .head) ≡ Open) e (busy-tells (recordOf (x .areas) j) (busy-of (recordOf (x .areas) j) (y .open8)))
 
-    taken-told : TurnYes w x j → Dec (j ≡ i) → ToldAfter (turns j) (taken w stepped j (x .areas .workers))
+    taken-told : TurnYes w x j → Dec (j ≡ i) → ToldAfter (turns j) (taken stepped j (x .areas .workers))
     unfolding taken
     taken-told y (yes e) =
-        let k : Tells stepped = act-tells w (x .settings) (recordOf w (x .areas) j) (memoryOf (x .areas)) (y .open8) in
+        let k : Tells stepped = act-tells w (x .settings) (recordOf (x .areas) j) (memoryOf (x .areas)) (y .open8) in
         ap lastOf (own-head w (stepped .record′) i j (x .areas .workers) e place-room)
         ∙ (k .answer-is ∙ (end-told (last x) (k .said) (was-open y e) ∙ sym (told-turn i j _ _ e)))
     taken-told y (no d) = ap lastOf (other-head w (stepped .record′) i j (x .areas .workers) (formed y) d) ∙ sym (told-other-turn i j _ _ d)
@@ -212,7 +213,7 @@ module _ {w : ℕ} {s₀ : Settings} {x : State} {k : ℕ} {os : List Opened} {c
   event-told (turns j) = turn-told j
 
 -- any events more
-pub sequence-told : {w : ℕ} {s₀ : Settings} (es : List Event) (x : State) {k : ℕ} {os : List Opened} {cs : List Call} → Along w s₀ x k os cs → (i : ℕ) → i < s₀ .workers → lastOf (recordOf w (stateAfter w es x .areas) i .head) ≡ told i (history w es x) (lastOf (recordOf w (x .areas) i .head))
+pub sequence-told : {w : ℕ} {s₀ : Settings} (es : List Event) (x : State) {k : ℕ} {os : List Opened} {cs : List Call} → Along w s₀ x k os cs → (i : ℕ) → i < s₀ .workers → lastOf (recordOf (stateAfter w es x .areas) i .head) ≡ told i (history w es x) (lastOf (recordOf (x .areas) i .head))
 unfolding stateAfter history told
 sequence-told [] x a i h = refl
 sequence-told {w} (e ∷ es) x a i h =
@@ -226,18 +227,18 @@ module _ {w : ℕ} {s₀ : Settings} {x : State} {k : ℕ} {os : List Opened} {c
   last-yes = let F = a .fine in both-true (yes-1 F) (both-true (yes-2 F) (both-true (yes-3 F) (both-true (yes-4 F i here) (both-true (fits-ok (at F i here)) refl))))
 
   -- so it is given, as the record tells it
-  last-given : lastAnswer w (x .settings) i (x .areas) ≡ result (reply 0 (lastOf (recordOf w (x .areas) i .head)) 0 (x .settings)) (x .areas)
+  last-given : lastAnswer w (x .settings) i (x .areas) ≡ result (reply 0 (lastOf (recordOf (x .areas) i .head)) 0 (x .settings)) (x .areas)
   unfolding lastAnswer
   last-given = unless-carried (x .settings) (x .areas) _ _ (all-yes _ last-yes)
 
 -- from a state that holds what an opening leaves
-reads-told : {w : ℕ} {s₀ : Settings} {x : State} → Along w s₀ x 0 [] [] → (i : ℕ) → i < s₀ .workers → lastOf (recordOf w (x .areas) i .head) ≡ Nothing → (es : List Event) → ReadsTold w x es i
+reads-told : {w : ℕ} {s₀ : Settings} {x : State} → Along w s₀ x 0 [] [] → (i : ℕ) → i < s₀ .workers → lastOf (recordOf (x .areas) i .head) ≡ Nothing → (es : List Event) → ReadsTold w x es i
 reads-told {w} {s₀} {x} a i h n es =
     let g = last-given (run-along es x 0 [] [] a .along) i h in
     (ap (λ r. r .reply .number) g, ap (λ r. r .reply .answer) g ∙ (sequence-told es x a i h ∙ ap (told i (history w es x)) n))
 
 -- over every width whose digits fit the pixel numbers
-pub last-answers : (w : ℕ) → Width w → LastAnswers w
+pub last-answers : (w : ℕ) → Width w → (s : Settings) → LastAnswers w s
 unfolding openingQuestions every
 last-answers w width s a z es i h =
     let y = refuses-opening w s a .numbered .carried .0 z in
@@ -246,6 +247,6 @@ last-answers w width s a z es i h =
     rw (opening-done w s a z)
     (reads-told (along-opened width s a y₁ y₂) i h (ap (λ (r : Record). lastOf (r .head)) (opened-record w s a i h y₂) ∙ idle-tells) es)
 
--- document 01's table
-pub last-answers-3 : LastAnswers 3
-last-answers-3 = last-answers 3 width-3
+-- document 02's tables, each at the width that its settings give
+pub last-answers-all : AtWidth LastAnswers
+last-answers-all s a z = last-answers (s .width) (opened-width (s .width) s a z) s a z

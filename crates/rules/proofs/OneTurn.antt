@@ -22,12 +22,12 @@ module _ (w : ℕ) (s : Settings) (i : ℕ) (a : Areas) where
   turn-asks = refl
 
   -- a turn that is carried out gives 0
-  taken-number : taken w (act w s (recordOf w a i) (memoryOf a)) i (a .workers) .reply .number ≡ 0
+  taken-number : taken (act w s (recordOf a i) (memoryOf a)) i (a .workers) .reply .number ≡ 0
   unfolding taken
   taken-number = refl
 
   -- a turn that ends in "full" gives 9
-  full-number : full w s i a .reply .number ≡ 9
+  full-number : full s i a .reply .number ≡ 9
   unfolding full
   full-number = refl
 
@@ -40,15 +40,15 @@ module _ (w : ℕ) (s : Settings) (i : ℕ) (a : Areas) where
       (λ e. unless-number s a _ _ taken-number)
 
   -- number 0: the turn is taken
-  pub done-number : turn w s i a .reply .number ≡ 0 → turn w s i a ≡ taken w (act w s (recordOf w a i) (memoryOf a)) i (a .workers)
+  pub done-number : turn w s i a .reply .number ≡ 0 → turn w s i a ≡ taken (act w s (recordOf a i) (memoryOf a)) i (a .workers)
   unfolding turn
   done-number =
-      pick-both (λ (r : Result). r .reply .number ≡ 0 → r ≡ taken w (act w s (recordOf w a i) (memoryOf a)) i (a .workers)) _
+      pick-both (λ (r : Result). r .reply .number ≡ 0 → r ≡ taken (act w s (recordOf a i) (memoryOf a)) i (a .workers)) _
       (λ e z. absurd (omega (arith, full-number)))
       (λ e z. unless-done s a _ _ taken-number z)
 
   -- number 9: the call ends with answer "full"
-  pub nine-is-full : turn w s i a .reply .number ≡ 9 → turn w s i a ≡ full w s i a
+  pub nine-is-full : turn w s i a .reply .number ≡ 9 → turn w s i a ≡ full s i a
   unfolding turn
   nine-is-full e = pick-true _ _ _ (eq-eqb _ _ (sym turn-number ∙ e))
 
@@ -65,7 +65,7 @@ module _ (w : ℕ) (s : Settings) (i : ℕ) (a : Areas) where
   turn-leaves h g = ap after (turn-refused h g)
 
   -- a call that ends "full" keeps the settings
-  full-settings : turn w s i a ≡ full w s i a → turn w s i a .reply .settings ≡ s
+  full-settings : turn w s i a ≡ full s i a → turn w s i a .reply .settings ≡ s
   unfolding full
   full-settings e = ap (λ r. r .reply .settings) e
 

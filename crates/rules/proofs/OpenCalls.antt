@@ -31,13 +31,13 @@ use Rattle.rules.specs.Searching as searching
 use Rattle.rules.specs.Moving as moving
 use Rattle.rules.specs.Acts.{actBy, act}
 use Rattle.rules.specs.Asked.{question7}
-use Rattle.rules.specs.Operations.{Result, result, reply, recordOf, memoryOf, question2Of, openingQuestions, startedAreas, start, taken, full, fullRecord, turn, lastOf}
+use Rattle.rules.specs.Operations.{AtWidth, Result, result, reply, recordOf, memoryOf, question2Of, openingQuestions, startedAreas, start, taken, full, fullRecord, turn, lastOf}
 use Rattle.rules.specs.Lists.{State, after}
 use Rattle.rules.specs.Calls.{Event, starts, turns, happens, history, stateAfter, Call, Opened}
 use Rattle.rules.specs.LastAnswers.{told}
 use Rattle.rules.specs.OpenCalls.{pixelBy, pixelTold, OpenCalls}
 use Rattle.rules.proofs.Exchanging.{exchange-both}
-use Rattle.rules.proofs.Dims.{Width, width-3}
+use Rattle.rules.proofs.Dims.{Width}
 use Rattle.rules.proofs.Carried.{opening-done, start-done}
 use Rattle.rules.proofs.OneTurn.{done-number, nine-is-full, turn-refused, refuses-turn}
 use Rattle.rules.proofs.Refused.{refuses-opening, refuses-start}
@@ -45,6 +45,7 @@ use Rattle.rules.proofs.Along.{Along}
 use Rattle.rules.proofs.Opened.{opened-record, along-opened}
 use Rattle.rules.proofs.Sequence.{event-along}
 use Rattle.rules.proofs.LastAnswers.{own-head, other-head, idle-tells, busy-tells, alone, full-formed, TurnYes, turn-yes, place-room, formed, sequence-told}
+use Rattle.rules.proofs.Theorem.{opened-width}
 
 -- a turn keeps the pixel, by kind
 module _ (w : ℕ) (s : Settings) (h : Head) (m : Memory) where
@@ -151,18 +152,18 @@ module _ (i j : ℕ) (r : Reply) (b : ℕ) where
 
 module _ {w : ℕ} {s₀ : Settings} {x : State} {k : ℕ} {os : List Opened} {cs : List Call} (a : Along w s₀ x k os cs) (i : ℕ) (here : i < s₀ .workers) where
   abbrev pixelOf : State → ℕ
-  pixelOf y = recordOf w (y .areas) i .head .pixel
+  pixelOf y = recordOf (y .areas) i .head .pixel
 
   abbrev PixelAfter : Event → Result → Type 0
   PixelAfter e r = pixelOf (after r) ≡ pixelBy i e (r .reply) (pixelOf x)
 
   -- a start
   module _ (j row column : ℕ) where
-    start-done-pixel : Dec (j ≡ i) → PixelAfter (starts j row column) (result (reply 0 Open 0 (x .settings)) (startedAreas w j row column (x .areas)))
+    start-done-pixel : Dec (j ≡ i) → PixelAfter (starts j row column) (result (reply 0 Open 0 (x .settings)) (startedAreas j row column (x .areas)))
     unfolding startedAreas
     start-done-pixel (yes e) =
         ap (λ (h : Head). h .pixel) (own-head w _ i j (x .areas .workers) e (place-room a i here)) ∙ (started-pixel _ _ ∙ sym (pixel-start i j _ _ row column e refl))
-    start-done-pixel (no d) = ap (λ (h : Head). h .pixel) (other-head w _ i j (x .areas .workers) (alone w _) d) ∙ sym (pixel-other i j _ _ row column d)
+    start-done-pixel (no d) = ap (λ (h : Head). h .pixel) (other-head w _ i j (x .areas .workers) (alone _) d) ∙ sym (pixel-other i j _ _ row column d)
 
     start-pixel : PixelAfter (starts j row column) (start w (x .settings) j row column (x .areas))
     start-pixel = by (ℕ-discrete (start w (x .settings) j row column (x .areas) .reply .number) 0)
@@ -173,18 +174,18 @@ module _ {w : ℕ} {s₀ : Settings} {x : State} {k : ℕ} {os : List Opened} {c
 
   -- a turn
   module _ (j : ℕ) where
-    own-pixel : (p : ℕ) → j ≡ i → p ≡ recordOf w (x .areas) j .head .pixel → p ≡ pixelOf x
-    own-pixel p e q = q ∙ ap (λ n. recordOf w (x .areas) n .head .pixel) e
+    own-pixel : (p : ℕ) → j ≡ i → p ≡ recordOf (x .areas) j .head .pixel → p ≡ pixelOf x
+    own-pixel p e q = q ∙ ap (λ n. recordOf (x .areas) n .head .pixel) e
 
-    full-pixel : Dec (j ≡ i) → PixelAfter (turns j) (full w (x .settings) j (x .areas))
+    full-pixel : Dec (j ≡ i) → PixelAfter (turns j) (full (x .settings) j (x .areas))
     unfolding full pixelBy
     full-pixel (yes e) = ap (λ (h : Head). h .pixel) (own-head w _ i j (x .areas .workers) e (place-room a i here)) ∙ own-pixel _ e (full-keeps _)
-    full-pixel (no d) = ap (λ (h : Head). h .pixel) (other-head w _ i j (x .areas .workers) (full-formed w _) d)
+    full-pixel (no d) = ap (λ (h : Head). h .pixel) (other-head w _ i j (x .areas .workers) (full-formed _) d)
 
-    taken-pixel : TurnYes w x j → Dec (j ≡ i) → PixelAfter (turns j) (taken w (act w (x .settings) (recordOf w (x .areas) j) (memoryOf (x .areas))) j (x .areas .workers))
+    taken-pixel : TurnYes w x j → Dec (j ≡ i) → PixelAfter (turns j) (taken (act w (x .settings) (recordOf (x .areas) j) (memoryOf (x .areas))) j (x .areas .workers))
     unfolding taken pixelBy
     taken-pixel y (yes e) =
-        ap (λ (h : Head). h .pixel) (own-head w _ i j (x .areas .workers) e (place-room a i here)) ∙ own-pixel _ e (act-keeps w (x .settings) (recordOf w (x .areas) j) (memoryOf (x .areas)))
+        ap (λ (h : Head). h .pixel) (own-head w _ i j (x .areas .workers) e (place-room a i here)) ∙ own-pixel _ e (act-keeps w (x .settings) (recordOf (x .areas) j) (memoryOf (x .areas)))
     taken-pixel y (no d) = ap (λ (h : Head). h .pixel) (other-head w _ i j (x .areas .workers) (formed a i here j y) d)
 
     turn-pixel : PixelAfter (turns j) (turn w (x .settings) j (x .areas))
@@ -203,7 +204,7 @@ module _ {w : ℕ} {s₀ : Settings} {x : State} {k : ℕ} {os : List Opened} {c
   event-pixel (turns j) = turn-pixel j
 
 -- any events more
-sequence-pixel : {w : ℕ} {s₀ : Settings} (es : List Event) (x : State) {k : ℕ} {os : List Opened} {cs : List Call} → Along w s₀ x k os cs → (i : ℕ) → i < s₀ .workers → recordOf w (stateAfter w es x .areas) i .head .pixel ≡ pixelTold i (history w es x) (recordOf w (x .areas) i .head .pixel)
+sequence-pixel : {w : ℕ} {s₀ : Settings} (es : List Event) (x : State) {k : ℕ} {os : List Opened} {cs : List Call} → Along w s₀ x k os cs → (i : ℕ) → i < s₀ .workers → recordOf (stateAfter w es x .areas) i .head .pixel ≡ pixelTold i (history w es x) (recordOf (x .areas) i .head .pixel)
 unfolding stateAfter history pixelTold
 sequence-pixel [] x a i h = refl
 sequence-pixel {w} (e ∷ es) x a i h =
@@ -228,7 +229,7 @@ open-busy r = by (eqb (kindNo (r .head .kind)) 0)
     by false e = refl
 
 -- over every width whose digits fit the pixel numbers
-pub open-calls : (w : ℕ) → Width w → OpenCalls w
+pub open-calls : (w : ℕ) → Width w → (s : Settings) → OpenCalls w s
 unfolding openingQuestions every
 open-calls w width s a z es i h =
     let y = refuses-opening w s a .numbered .carried .0 z in
@@ -243,6 +244,6 @@ open-calls w width s a z es i h =
       pixel-told = sequence-pixel es _ A i h ∙ ap (pixelTold i (history w es _)) (ap (λ (r : Record). r .head .pixel) o);
     }
 
--- document 01's table
-pub open-calls-3 : OpenCalls 3
-open-calls-3 = open-calls 3 width-3
+-- document 02's tables, each at the width that its settings give
+pub open-calls-all : AtWidth OpenCalls
+open-calls-all s a z = open-calls (s .width) (opened-width (s .width) s a z) s a z

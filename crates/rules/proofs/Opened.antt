@@ -75,20 +75,20 @@ levels {δ} W workers =
     record { covered = λ d. []; count = λ d. 0; counted = counted W; total = omega arith }
 
 -- the workers' words are zeros
-pub zero-record : (w : ℕ) (l : List ℕ) (workers i : ℕ) → i < workers → workerWords w * workers ≤ length l → load w (fill l 0 (workerWords w * workers) 0) i ≡ idle
+pub zero-record : (l : List ℕ) (workers i : ℕ) → i < workers → workerWords * workers ≤ length l → load (fill l 0 (workerWords * workers) 0) i ≡ idle
 unfolding workerPlace
-zero-record w l workers i h r =
-    zero-words w (fill l 0 (workerWords w * workers) 0) i
+zero-record l workers i h r =
+    zero-words (fill l 0 (workerWords * workers) 0) i
     (λ k q.
-    let p = place-next w h in
-    let b = word-room w in
-    let e : workerWords w * i + k < workerWords w * workers = omega arith in
-    rw zero-add at (fill-in (workerWords w * workers) l 0 0 (workerWords w * i + k) e (omega arith)))
+    let p = place-next h in
+    let b = word-room in
+    let e : workerWords * i + k < workerWords * workers = omega arith in
+    rw zero-add at (fill-in (workerWords * workers) l 0 0 (workerWords * i + k) e (omega arith)))
 
 -- after an opening a record is the one of zeros
-pub opened-record : (w : ℕ) (s : Settings) (a : Areas) (i : ℕ) → i < s .workers → question2Of w s a ≡ true → recordOf w (openedAreas w s a) i ≡ idle
+pub opened-record : (w : ℕ) (s : Settings) (a : Areas) (i : ℕ) → i < s .workers → question2Of w s a ≡ true → recordOf (openedAreas w s a) i ≡ idle
 unfolding openedAreas
-opened-record w s a i h q = zero-record w (a .workers) (s .workers) i h (room w s (length (a .nodes)) (length (a .levels)) (length (a .workers)) q .workers)
+opened-record w s a i h q = zero-record (a .workers) (s .workers) i h (room w s (length (a .nodes)) (length (a .levels)) (length (a .workers)) q .workers)
 
 module _ {w : ℕ} (width : Width w) (s : Settings) (a : Areas) (y : question1 s ≡ true) (r : question2 w s (length (a .nodes)) (length (a .levels)) (length (a .workers)) ≡ true) where
   -- the world: what the words held before stays in its functions wherever the opening did not write
@@ -102,7 +102,7 @@ module _ {w : ℕ} (width : Width w) (s : Settings) (a : Areas) (y : question1 s
       record {
         width = width;
         ranges = y;
-        same = record { workers-is = refl; limit-is = refl; nodes-is = refl };
+        same = record { width-is = refl; workers-is = refl; limit-is = refl; nodes-is = refl };
         shows = shows-level (reads w (s .nodes) (levelCount w s) (memoryOf a) (R .nodes) (R .levels)) 0 none 0 some-level;
         nodes-fresh = fresh-nodes;
         levels-fresh = fresh-levels;
@@ -122,7 +122,7 @@ module _ {w : ℕ} (width : Width w) (s : Settings) (a : Areas) (y : question1 s
         room = rw length-fill (R .workers);
         inv = theory.opened-inv (pixelAt (a .nodes)) (cellsOf w (memoryOf a)) (previousAt w (a .levels)) (depthAt w (a .levels)) none (width .some);
         levels = levels opened (s .workers);
-        records = λ i h. rw (zero-record w (a .workers) (s .workers) i h (R .workers)) matched;
+        records = λ i h. rw (zero-record (a .workers) (s .workers) i h (R .workers)) matched;
       }
     where
       matched : Matches idle theory.fresh

@@ -28,7 +28,7 @@ use Rattle.rules.specs.Operations.{turn}
 use Rattle.rules.specs.Lists as many
 use Rattle.rules.specs.Lists.{State, state, after, visit, turnAt, leftAfter, visits, counts, turnsDone, turnsResult, listQuestions}
 use Rattle.rules.specs.Calls.{turns, happens}
-use Rattle.rules.specs.Sequences.{turnsAt, eventsOf}
+use Rattle.rules.specs.Sequences.{turnsAt, listEvents}
 use Rattle.rules.specs.Exchanges.{now, commits, exchangeBy, exchangeOf, exchangeAt, doneIn, failedIn, total, successes, failures, listReport}
 use Rattle.rules.specs.OwnExchange.{Makes, put, append, close, set-put, set-append, set-close, Own, OwnStatement, OneATurn}
 use Rattle.rules.proofs.Exchanging.{exchange-done, exchange-failed}
@@ -120,7 +120,7 @@ unfolding total
 none-few w x = omega arith
 
 pub list-one-a-turn : (w : ℕ) → OneATurn w
-unfolding listReport eventsOf
+unfolding listReport listEvents
 list-one-a-turn w s l limit a =
     pick-both (λ es. successes w es (state s a) + failures w es (state s a) ≤ many.turns w s l limit a .reply .turns) (eqb (firstNo (listQuestions w s l a)) 0)
     (λ e. rw (list-carried w s l limit a (eqb-true _ _ e)) (done-few w l limit (state s a)))

@@ -12,7 +12,7 @@ use Rattle.settings.specs.declared.Settings.{Settings}
 use Rattle.areas.specs.Memory.{Memory, levelRef}
 use Rattle.record.specs.declared.Answer.{Answer}
 use Rattle.rules.specs.Acts.{act}
-use Rattle.rules.specs.Operations.{Result, openingQuestions, question2Of, recordOf, memoryOf, startedAreas, start, taken, full, turn}
+use Rattle.rules.specs.Operations.{AtWidth, Result, openingQuestions, question2Of, recordOf, memoryOf, startedAreas, start, taken, full, turn}
 use Rattle.rules.specs.Lists.{State, after}
 use Rattle.rules.specs.Reached.{Reached}
 use Rattle.rules.specs.Calls.{Event, starts, turns, happens, stateAfter, Call, Opened}
@@ -21,7 +21,7 @@ use Rattle.trie.proofs.Tree.{Published}
 use Rattle.trie.proofs.Digits.{Dims}
 use Rattle.trie.proofs.World.{World}
 use Rattle.trie.proofs.Whole.{Worker}
-use Rattle.rules.proofs.Dims.{Width, width-3}
+use Rattle.rules.proofs.Dims.{Width}
 use Rattle.rules.proofs.Carried.{opening-done, start-done}
 use Rattle.rules.proofs.OneTurn.{done-number, nine-is-full, turn-refused}
 use Rattle.rules.proofs.Refused.{refuses-opening, refuses-start}
@@ -32,6 +32,7 @@ use Rattle.rules.proofs.Along.{Along, top-stays}
 use Rattle.rules.proofs.Opened.{along-opened}
 use Rattle.rules.proofs.Sequence.{event-along, run-along}
 use Rattle.rules.proofs.TurnEvent.{carried-ok}
+use Rattle.rules.proofs.Theorem.{opened-width}
 
 -- nothing changes
 same : {w : ℕ} {m : Memory} {g : ℕ} → Reached w m (levelRef g) → Stays w m m g
@@ -57,7 +58,7 @@ module _ {w : ℕ} {s₀ : Settings} {x : State} {k : ℕ} {os : List Opened} {c
   abbrev StaysIn : Result → Type 0
   StaysIn y = Stays w (memoryOf (x .areas)) (memoryOf (y .areas)) g
 
-  taken-stays : (i : ℕ) → turn w (x .settings) i (x .areas) .reply .number ≡ 0 → StaysIn (taken w (act w (x .settings) (recordOf w (x .areas) i) (memoryOf (x .areas))) i (x .areas .workers))
+  taken-stays : (i : ℕ) → turn w (x .settings) i (x .areas) .reply .number ≡ 0 → StaysIn (taken (act w (x .settings) (recordOf (x .areas) i) (memoryOf (x .areas))) i (x .areas .workers))
   unfolding taken
   taken-stays i z =
       let K = carried-ok a i z in
@@ -70,7 +71,7 @@ module _ {w : ℕ} {s₀ : Settings} {x : State} {k : ℕ} {os : List Opened} {c
         reached-stays = published-reached (K .table) (K .inv .structure) (top-stays (a .fine) (a .top) (K .rowing)) g (L .published);
       }
 
-  full-stays : (i : ℕ) → StaysIn (full w (x .settings) i (x .areas))
+  full-stays : (i : ℕ) → StaysIn (full (x .settings) i (x .areas))
   unfolding full
   full-stays i = same r
 
@@ -104,7 +105,7 @@ sequence-stays {w} (e ∷ es) x a g r =
     stays-then k (sequence-stays es (after (happens w e x)) (event-along a e) g (k .reached-stays))
 
 -- over every width whose digits fit the pixel numbers
-pub previous-stays : (w : ℕ) → Width w → PreviousStays w
+pub previous-stays : (w : ℕ) → Width w → (s : Settings) → PreviousStays w s
 unfolding openingQuestions every
 previous-stays w width s a z =
     let y = refuses-opening w s a .numbered .carried .0 z in
@@ -113,6 +114,6 @@ previous-stays w width s a z =
     rw (opening-done w s a z)
     (λ before more g r. sequence-stays more _ (run-along before _ 0 [] [] (along-opened width s a y₁ y₂) .along) g r)
 
--- document 01's table
-pub previous-stays-3 : PreviousStays 3
-previous-stays-3 = previous-stays 3 width-3
+-- document 02's tables, each at the width that its settings give
+pub previous-stays-all : AtWidth PreviousStays
+previous-stays-all s a z = previous-stays (s .width) (opened-width (s .width) s a z) s a z

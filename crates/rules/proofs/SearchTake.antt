@@ -94,7 +94,7 @@ module _ {w : ℕ} {s₀ s : Settings} {m : Memory} {W : WorldOf w s₀} {ws : �
       let n = s .«nodes_taken» in
       let nobody = a .table .nodes-fresh .beyond n (omega arith) in
       let all = a .table .same .nodes-is in
-      with-node o l (tookNode s) n (record { workers-is = a .table .same .workers-is; limit-is = a .table .same .limit-is; nodes-is = all }) refl
+      with-node o l (tookNode s) n (record { width-is = a .table .same .width-is; workers-is = a .table .same .workers-is; limit-is = a .table .same .limit-is; nodes-is = all }) refl
       (rw add-one (fresh-next (a .table .nodes-fresh) (owner i) (λ y. omega arith)))
       (omega arith) (λ y. omega arith) (λ j d y. omega arith) (inl (sym (a .matches .node-is) ∙ none))
       (took (o .act-is) (sym (a .matches .node-is) ∙ none) (a .table .nodes-fresh) refl (add-one n))

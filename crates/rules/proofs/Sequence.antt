@@ -58,7 +58,7 @@ module _ {w : ℕ} {s₀ : Settings} {x : State} {k : ℕ} {os : List Opened} {c
   unfolding question6
   left-over i h =
       record {
-        left = λ n z. level-left w (x .settings) (recordOf w (x .areas) i .head) (x .areas .levels) z (level-reads _ w (x .settings) (recordOf w (x .areas) i) (memoryOf (x .areas)) n (both-right _ _ (asks-ok (at (a .fine) i h))));
+        left = λ n z. level-left w (x .settings) (recordOf (x .areas) i .head) (x .areas .levels) z (level-reads _ w (x .settings) (recordOf (x .areas) i) (memoryOf (x .areas)) n (both-right _ _ (asks-ok (at (a .fine) i h))));
       }
 
 -- the state after the events of two lists

@@ -39,7 +39,7 @@ use Rattle.rules.proofs.Along.{Along, below, newest-first, newest-past}
 pub record StartYes (w : ℕ) (s : Settings) (i row column : ℕ) (x : State) : Type 0 where
   pub below : question4 s i ≡ true
   pub inside : question5 row column ≡ true
-  pub is-idle : question7 (recordOf w (x .areas) i) ≡ true
+  pub is-idle : question7 (recordOf (x .areas) i) ≡ true
 
 pub start-yes : (w : ℕ) (x : State) (i row column : ℕ) → AllYes (startQuestions w (x .settings) i row column (x .areas)) → StartYes w (x .settings) i row column x
 unfolding startQuestions every
@@ -69,7 +69,7 @@ module _ {w : ℕ} {s₀ : Settings} {x : State} {W : WorldOf w s₀} {ws : ℕ 
   abbrev pub starter : Worker
   starter = begun (ws i) (pixelNumber row column) (length (W .book))
 
-  pub fine-started : Fine w s₀ (state (x .settings) (startedAreas w i row column (x .areas))) W (upd ws i starter)
+  pub fine-started : Fine w s₀ (state (x .settings) (startedAreas i row column (x .areas))) W (upd ws i starter)
   unfolding startedAreas started
   fine-started =
       let K = at F i here .matches in
@@ -84,7 +84,7 @@ module _ {w : ℕ} {s₀ : Settings} {x : State} {W : WorldOf w s₀} {ws : ℕ 
       fine-after F i here (F .table) I (levels-stay (F .levels) i here starter (grows-refl W) refl) (record { pixel-is = refl; node-is = K .node-is; level-is = K .level-is; doing = searches refl refl (peeks refl entry) })
 
 module _ {w : ℕ} {s₀ : Settings} {x : State} {k : ℕ} {os : List Opened} {cs : List Call} (a : Along w s₀ x k os cs) (i row column : ℕ) where
-  pub opened-start : StartYes w (x .settings) i row column x → Along w s₀ (state (x .settings) (startedAreas w i row column (x .areas))) (suc k) (record { worker = i; index = k; pixel = pixelNumber row column } ∷ os) cs
+  pub opened-start : StartYes w (x .settings) i row column x → Along w s₀ (state (x .settings) (startedAreas i row column (x .areas))) (suc k) (record { worker = i; index = k; pixel = pixelNumber row column } ∷ os) cs
   opened-start y =
       record {
         world = a .world;

@@ -1,7 +1,7 @@
 -- Demand 3: for every carried out opening and every sequence of starts and turns there is one row of all ended calls.
 -- Relies on what holds along a sequence, on the count of nodes taken, and on that the reached nodes are the placed ones.
 use Prim.Native.Nat.{ℕ}
-use mathlib.Core.Path.{_≡_, refl, _∙_}
+use mathlib.Core.Path.{_≡_, refl, sym, _∙_}
 use mathlib.Core.Bool.{true}
 use mathlib.Core.List.{List, []}
 use native.Mathlib.Omega.{arith}
@@ -9,14 +9,15 @@ use Rattle.words.specs.Choice.{every}
 use Rattle.words.proofs.Choice.{both-left, both-right}
 use Rattle.settings.specs.Sizes.{question1, fresh}
 use Rattle.settings.specs.declared.Settings.{Settings}
+use Rattle.settings.proofs.Laws.{ranges}
 use Rattle.areas.specs.Memory.{Areas}
 use Rattle.rules.specs.Opening.{openedSettings}
-use Rattle.rules.specs.Operations.{openingQuestions, question2Of}
+use Rattle.rules.specs.Operations.{AtWidth, opening, openingQuestions, question2Of}
 use Rattle.rules.specs.Lists.{State}
 use Rattle.rules.specs.Calls.{Event, Call, calls}
 use Rattle.rules.specs.Refusals.{AllYes}
 use Rattle.rules.specs.Demands.{ReachedIsBook, Row, Demand3, Statement}
-use Rattle.rules.proofs.Dims.{Width, width-3}
+use Rattle.rules.proofs.Dims.{Width, width-of}
 use Rattle.rules.proofs.Carried.{opening-done}
 use Rattle.rules.proofs.Refused.{refuses-opening}
 use Rattle.rules.proofs.Reading.{pixel-reads, pixel-le}
@@ -68,20 +69,25 @@ demand3-of {w} {s₀} {x} a z y es =
       each = λ before e rest q. event-ok (run-along before x 0 [] [] a .along) e;
       taken = λ before rest q. let c = sequence-counts w before x in omega arith;
       level-left = λ before rest q i h. left-over (run-along before x 0 [] [] a .along) i (rw y at h);
+      width-stays = λ before rest q. run-along before x 0 [] [] a .along .fine .table .same .width-is ∙ sym (a .fine .table .same .width-is);
     }
 
 pub opening-yes : (w : ℕ) (s : Settings) (a : Areas) → AllYes (openingQuestions w s a) → (question1 s ≡ true) × (question2Of w s a ≡ true)
 unfolding openingQuestions every
 opening-yes w s a y = (both-left _ _ y, both-left _ _ (both-right _ _ y))
 
+-- a carried out opening has one of the widths
+pub opened-width : (w : ℕ) (s : Settings) (a : Areas) → opening w s a .reply .number ≡ 0 → Width (s .width)
+opened-width w s a z = width-of (ranges s (opening-yes w s a (refuses-opening w s a .numbered .carried .0 z) .0) .width)
+
 -- Demand 3 over every width whose digits fit the pixel numbers
-pub demand3 : (w : ℕ) → Width w → Statement w
+pub demand3 : (w : ℕ) → Width w → (s : Settings) → Statement w s
 unfolding openedSettings fresh
 demand3 w width s a z es =
     let y = refuses-opening w s a .numbered .carried .0 z in
     rw (opening-done w s a z)
     (demand3-of (along-opened width s a (opening-yes w s a y .0) (opening-yes w s a y .1)) refl refl es)
 
--- document 01's table
-pub theorem : Statement 3
-theorem = demand3 3 width-3
+-- document 02's tables, each at the width that its settings give
+pub theorem : AtWidth Statement
+theorem s a z = demand3 (s .width) (opened-width (s .width) s a z) s a z

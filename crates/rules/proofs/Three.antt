@@ -149,10 +149,10 @@ module _ (w : ℕ) (x : State) (i : ℕ) where
   its = turn w (x .settings) i (x .areas)
 
   -- a turn whose questions are all answered yes
-  act-counted : question3 w (x .settings) ≡ true → AllYes (turnQuestions w (x .settings) i (x .areas)) → question3 w (act w (x .settings) (recordOf w (x .areas) i) (memoryOf (x .areas)) .settings) ≡ true
+  act-counted : question3 w (x .settings) ≡ true → AllYes (turnQuestions w (x .settings) i (x .areas)) → question3 w (act w (x .settings) (recordOf (x .areas) i) (memoryOf (x .areas)) .settings) ≡ true
   unfolding turnQuestions every act question6 question9
   act-counted q y =
-      let r : Record = recordOf w (x .areas) i in
+      let r : Record = recordOf (x .areas) i in
       let y₆ = both-right _ _ (both-right _ _ (both-right _ _ (both-right _ _ y))) in
       kind-counted w (x .settings) (r .head) (memoryOf (x .areas)) q (r .head .kind) (r .moves) (both-right _ _ (both-left _ _ y₆)) (both-left _ _ (both-right _ _ (both-right _ _ y₆)))
 
@@ -178,8 +178,8 @@ module _ (w : ℕ) (x : State) (i : ℕ) where
   unfolding tookNode tookLevel
   sizes-stay =
       settings-by (SameSizes (x .settings)) (sizes-same (x .settings))
-      (record { workers-is = refl; limit-is = refl; nodes-is = refl })
-      (record { workers-is = refl; limit-is = refl; nodes-is = refl })
+      (record { width-is = refl; workers-is = refl; limit-is = refl; nodes-is = refl })
+      (record { width-is = refl; workers-is = refl; limit-is = refl; nodes-is = refl })
       (one-access w (x .settings) i (x .areas))
 
   pub three-stays : {workers : ℕ} → Three w workers x → Three w workers (after its)

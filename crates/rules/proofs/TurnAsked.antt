@@ -21,9 +21,9 @@ pub record TurnAsked (w : ℕ) (s : Settings) (i : ℕ) (a : Areas) (n : ℕ) : 
   pub two : question2Of w s a ≡ true
   pub three : question3 w s ≡ true
   pub four : question4 s i ≡ true
-  pub six : question6 w s (recordOf w a i) (memoryOf a) ≡ true
-  pub busy : question7 (recordOf w a i) ≡ false
-  pub nine : firstNo (asks 9 (question9 s (recordOf w a i)) ∷ []) ≡ n
+  pub six : question6 w s (recordOf a i) (memoryOf a) ≡ true
+  pub busy : question7 (recordOf a i) ≡ false
+  pub nine : firstNo (asks 9 (question9 s (recordOf a i)) ∷ []) ≡ n
 
 pub turn-asked : (w : ℕ) (s : Settings) (i : ℕ) (a : Areas) {n : ℕ} → ((k : ℕ) → 1 ≤ k → k ≤ 8 → k ≢ n) → firstNo (turnQuestions w s i a) ≡ n → TurnAsked w s i a n
 unfolding turnQuestions question8

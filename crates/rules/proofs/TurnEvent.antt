@@ -66,8 +66,8 @@ other-number m z y (inr e) q = y (q ∙ e)
 -- its worker is below workers and has a call open; what question 9 gives
 pub record Open8 (w : ℕ) (x : State) (i n : ℕ) : Type 0 where
   pub below : question4 (x .settings) i ≡ true
-  pub busy : question7 (recordOf w (x .areas) i) ≡ false
-  pub gives : firstNo (asks 9 (question9 (x .settings) (recordOf w (x .areas) i)) ∷ []) ≡ n
+  pub busy : question7 (recordOf (x .areas) i) ≡ false
+  pub gives : firstNo (asks 9 (question9 (x .settings) (recordOf (x .areas) i)) ∷ []) ≡ n
 
 pub turn-open : (w : ℕ) (x : State) (i : ℕ) {n : ℕ} → Passed n → turn w (x .settings) i (x .areas) .reply .number ≡ n → Open8 w x i n
 unfolding turnQuestions question8
@@ -94,7 +94,7 @@ module _ {w : ℕ} {s₀ : Settings} {x : State} {k : ℕ} {os : List Opened} {c
       none-given (λ z. omega arith) e₉
 
   -- what a turn that is carried out leaves of the invariant
-  pub carried-ok : turn w (x .settings) i (x .areas) .reply .number ≡ 0 → TurnOk w s₀ (a .world) (a .workers) i (act w (x .settings) (recordOf w (x .areas) i) (memoryOf (x .areas)))
+  pub carried-ok : turn w (x .settings) i (x .areas) .reply .number ≡ 0 → TurnOk w s₀ (a .world) (a .workers) i (act w (x .settings) (recordOf (x .areas) i) (memoryOf (x .areas)))
   carried-ok z =
       let o = turn-open w x i (inl refl) z in
       turn-ok (at (a .fine) i (below a (o .below))) (o .busy) (first-later 9 _ _ (λ y. omega arith) (o .gives) .0)
@@ -137,7 +137,7 @@ module _ {w : ℕ} {s₀ : Settings} {x : State} {k : ℕ} {os : List Opened} {c
       let o = turn-open w x i (inr refl) z in
       let F = a .fine in
       let h = below a (o .below) in
-      let N = none-left (x .settings) (recordOf w (x .areas) i) (last-no 9 _ (λ y. omega arith) (o .gives)) in
+      let N = none-left (x .settings) (recordOf (x .areas) i) (last-no 9 _ (λ y. omega arith) (o .gives)) in
       let b = busy-acts (F .records i h) (o .busy) in
       let c = stopped (a .workers i) in
       rw (nine-is-full w (x .settings) i (x .areas) z)
@@ -215,7 +215,7 @@ module _ {w : ℕ} {s₀ : Settings} {x : State} {k : ℕ} {os : List Opened} {c
         full-taken = λ f.
             let z = full-nine f in
             let o = turn-open w x i (inr refl) z in
-            let N = none-left (x .settings) (recordOf w (x .areas) i) (last-no 9 _ (λ y. omega arith) (o .gives)) in
+            let N = none-left (x .settings) (recordOf (x .areas) i) (last-no 9 _ (λ y. omega arith) (o .gives)) in
             let same : x .settings .nodes ≡ s₀ .nodes = a .fine .table .same .nodes-is in
             let l : x .settings .«nodes_taken» ≤ s₀ .nodes = a .fine .table .nodes-le in
             rw (nine-is-full w (x .settings) i (x .areas) z, full) (omega (arith, N .all-taken));

@@ -31,4 +31,4 @@ pub data Access (w : ℕ) (s : Settings) (h : Head) (m : Memory) (s′ : Setting
 -- excludes: a machine that runs a whole call that places a pixel in one turn; one that writes the entry in H in the turn that sets the last node;
 -- one whose turn fills a node or level that is neither the next nor held in its record, or writes a previous word of a level that it does not take
 abbrev pub OneAccess : ℕ → Type 0
-OneAccess w = (s : Settings) (i : ℕ) (a : Areas) → Access w s (recordOf w a i .head) (memoryOf a) (turn w s i a .reply .settings) (memoryOf (turn w s i a .areas))
+OneAccess w = (s : Settings) (i : ℕ) (a : Areas) → Access w s (recordOf a i .head) (memoryOf a) (turn w s i a .reply .settings) (memoryOf (turn w s i a .areas))

@@ -55,9 +55,9 @@ pub record EndsAlone (w n i : ℕ) (x : State) : Type 0 where
   pub run-is : runAlone w n i x ≡ happens w (turns i) (stateAfter w (turnsOf i before) x)
 
 -- "That a call with all turns to itself ends, from every state a sequence can reach, is part of the work."
-abbrev pub AloneStatement : ℕ → Type 0
-AloneStatement w =
-    (s : Settings) (a : Areas) → opening w s a .reply .number ≡ 0
+abbrev pub AloneStatement : ℕ → Settings → Type 0
+AloneStatement w s =
+    (a : Areas) → opening w s a .reply .number ≡ 0
     → (es : List Event) (i : ℕ) → i < s .workers
-    → question8 (recordOf w (stateAfter w es (after (opening w s a)) .areas) i) ≡ true
+    → question8 (recordOf (stateAfter w es (after (opening w s a)) .areas) i) ≡ true
     → EndsAlone w (aloneTurns w s) i (stateAfter w es (after (opening w s a)))

@@ -18,8 +18,8 @@ use Rattle.rules.specs.Consequences.{Shown}
 use Rattle.rules.specs.Alone.{runAlone, aloneTurns, turnsOf}
 
 -- worker i holds no node
-abbrev pub NoSpare : ℕ → State → ℕ → Type 0
-NoSpare w x i = recordOf w (x .areas) i .head .«held_node» ≡ 0
+abbrev pub NoSpare : State → ℕ → Type 0
+NoSpare x i = recordOf (x .areas) i .head .«held_node» ≡ 0
 
 -- pixel p is not placed
 abbrev pub NotShown : ℕ → State → ℕ → Type 0
@@ -46,32 +46,32 @@ pub data AnswersAlone (w p : ℕ) (x : State) (r : Result) : Type 0 where
 pub record CallAlone (w i p : ℕ) (x : State) (r : Result) : Type 0 where
   pub answers : AnswersAlone w p x r
   -- excludes: a call alone that leaves a node spare
-  pub no-spare : NoSpare w (after r) i
+  pub no-spare : NoSpare (after r) i
   -- excludes: a call whose worker cannot start again
-  pub idle : question7 (recordOf w (after r .areas) i) ≡ true
+  pub idle : question7 (recordOf (after r .areas) i) ≡ true
 
 -- for every state x that a sequence reaches, and every start in it that is carried out on a worker without a spare node
-abbrev pub AnswersStatement : ℕ → Type 0
-AnswersStatement w =
-    (s : Settings) (a : Areas) → opening w s a .reply .number ≡ 0
+abbrev pub AnswersStatement : ℕ → Settings → Type 0
+AnswersStatement w s =
+    (a : Areas) → opening w s a .reply .number ≡ 0
     → (es : List Event) (i row column : ℕ)
     → start w (stateAfter w es (after (opening w s a)) .settings) i row column (stateAfter w es (after (opening w s a)) .areas) .reply .number ≡ 0
-    → NoSpare w (stateAfter w es (after (opening w s a))) i
+    → NoSpare (stateAfter w es (after (opening w s a))) i
     → CallAlone w i (pixelNumber row column) (stateAfter w es (after (opening w s a)))
     (runAlone w (aloneTurns w s) i (after (start w (stateAfter w es (after (opening w s a)) .settings) i row column (stateAfter w es (after (opening w s a)) .areas))))
 
 -- an idle worker of the table may start a call for any pixel, in every state that a sequence reaches
-abbrev pub StartsStatement : ℕ → Type 0
-StartsStatement w =
-    (s : Settings) (a : Areas) → opening w s a .reply .number ≡ 0
+abbrev pub StartsStatement : ℕ → Settings → Type 0
+StartsStatement w s =
+    (a : Areas) → opening w s a .reply .number ≡ 0
     → (es : List Event) (i row column : ℕ) → i < s .workers → question5 row column ≡ true
-    → question7 (recordOf w (stateAfter w es (after (opening w s a)) .areas) i) ≡ true
+    → question7 (recordOf (stateAfter w es (after (opening w s a)) .areas) i) ≡ true
     → start w (stateAfter w es (after (opening w s a)) .settings) i row column (stateAfter w es (after (opening w s a)) .areas) .reply .number ≡ 0
 
 -- and a call that has all turns to itself leaves a state that a sequence reaches, so that the next one may follow
-abbrev pub ReachesStatement : ℕ → Type 0
-ReachesStatement w =
-    (s : Settings) (a : Areas) → opening w s a .reply .number ≡ 0
+abbrev pub ReachesStatement : ℕ → Settings → Type 0
+ReachesStatement w s =
+    (a : Areas) → opening w s a .reply .number ≡ 0
     → (es : List Event) (i row column : ℕ)
     → start w (stateAfter w es (after (opening w s a)) .settings) i row column (stateAfter w es (after (opening w s a)) .areas) .reply .number ≡ 0
     → (k : ℕ)

@@ -1,12 +1,12 @@
 -- Questions 4 to 9, each under its number. Question 6 has a part for each kind of turn, apart from what the kind then does.
 -- Relies on the record's layout and on the cells that the kinds of turn read.
-use Prim.Native.Nat.{ℕ, _+_, _-_}
+use Prim.Native.Nat.{ℕ, _+_}
 use mathlib.Core.Bool.{Bool, true, not}
 use mathlib.Core.List.{List, [], _∷_}
 use lib.Dec.{eqb, ltb, leb}
 use lib.ListN.{length}
 use Rattle.words.specs.Choice.{pick, both, every}
-use Rattle.words.specs.Digits.{depths, maxSide, maxPixel}
+use Rattle.words.specs.Digits.{lastDepth, maxSide, maxPixel}
 use Rattle.settings.specs.Sizes.{levelCount, maxMoves}
 use Rattle.settings.specs.declared.Settings.{Settings}
 use Rattle.areas.specs.Memory.{Memory, isNode, named, pixelAt, nextAt, depthAt, cellAt, levelTaken, nodeTaken, refTaken}
@@ -47,9 +47,9 @@ inHand held taken = both (leb 1 held) (leb held taken)
 unfoldable pub spare : ℕ → ℕ → Bool
 spare held taken = leb held taken
 
--- level g is taken, and "depths .. at most 7": an entry is picked in it
+-- level g is taken, and "depths .. at most 7", which is the last depth at width 3: an entry is picked in it
 unfoldable pub picksIn : ℕ → Settings → ℕ → List ℕ → Bool
-picksIn w s g levels = both (levelTaken s g) (leb (depthAt w levels g) (depths w - 1))
+picksIn w s g levels = both (levelTaken s g) (leb (depthAt w levels g) (lastDepth w))
 
 -- node i is taken, and "each pixel word read at most 16,777,215"
 unfoldable pub pixelFits : Settings → ℕ → List ℕ → Bool
@@ -63,9 +63,9 @@ readsRef w s x m = refTaken s (cellAt w m x)
 unfoldable pub comparesRef : Settings → ℕ → List ℕ → Bool
 comparesRef s word nodes = pick (isNode word) (pixelFits s (named word) nodes) (levelTaken s (named word))
 
--- Follow and SetFollow: "does going back meet its level within 7 moves (previous words read)"
+-- Follow and SetFollow: "does going back meet its level within 7 moves (previous words read)": as many as the last depth
 unfoldable pub goesBack : ℕ → ℕ → ℕ → ℕ → List ℕ → Bool
-goesBack w taken level word levels = pick (isNode word) true (backMeets w taken levels (depths w - 1) level (named word))
+goesBack w taken level word levels = pick (isNode word) true (backMeets w taken levels (lastDepth w) level (named word))
 
 -- Follow's word: as Read's, and the way back from a level
 unfoldable pub followsRef : ℕ → Settings → Head → ℕ → Memory → Bool
@@ -83,17 +83,17 @@ exchanges w h x room asks m =
     let word : ℕ = cellAt w m x in
     pick (expected h word) room (asks word)
 
--- Level and SetLevel: "depths, a new level's too, at most 7", "is a needed level left?"
+-- Level and SetLevel: "depths, a new level's too, at most 7" (the last depth), "is a needed level left?"
 unfoldable pub levelLeft : ℕ → Settings → Head → List ℕ → Bool
 levelLeft w s h levels =
-    both (leb (depthAt w levels (h .level) + 1) (depths w - 1))
+    both (leb (depthAt w levels (h .level) + 1) (lastDepth w))
     (pick (eqb (h .«held_level») 0) (ltb (s .«levels_taken») (levelCount w s)) true)
 
 -- ChainHead and ChainNext: "the moved chain at most the chain limit"
 unfoldable pub remembers : Settings → Move → ℕ → Bool
 remembers s v word = pick (isNode word) (leb (v .count + 1) (s .limit)) true
 
--- SetClose: "Moves one inside another at most 7": is there room for one more?
+-- SetClose: "Moves one inside another at most 7" (the last depth): is there room for one more?
 unfoldable pub moveLeft : ℕ → List Move → Bool
 moveLeft w ms = ltb (length ms) (maxMoves w)
 

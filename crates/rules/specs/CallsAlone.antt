@@ -80,7 +80,7 @@ pub record ListLike (w : ℕ) (s : Settings) (x : State) (i : ℕ) (ps : List Pl
   pub answers : answersAlone w (aloneTurns w s) i ps x ≡ flatAnswers (s .nodes) [] ps
   pub table : ShowsList w (lastAlone w (aloneTurns w s) i ps x) (flatLast (s .nodes) [] ps)
 
-abbrev pub CallsStatement : ℕ → Type 0
-CallsStatement w =
-    (s : Settings) (a : Areas) → opening w s a .reply .number ≡ 0
+abbrev pub CallsStatement : ℕ → Settings → Type 0
+CallsStatement w s =
+    (a : Areas) → opening w s a .reply .number ≡ 0
     → (i : ℕ) → i < s .workers → (ps : List Place) → AllInside ps → ListLike w s (after (opening w s a)) i ps

@@ -48,8 +48,8 @@ pub record Row (w : ℕ) (x : State) (es : List Event) : Type 0 where
 unfoldable pub takesNumber : ℕ → Event → State → Bool
 takesNumber w (starts i row column) x = false
 takesNumber w (turns i) x =
-    both (takesNode (recordOf w (x .areas) i .head .kind))
-    (both (eqb (recordOf w (x .areas) i .head .«held_node») 0) (eqb (happens w (turns i) x .reply .number) 0))
+    both (takesNode (recordOf (x .areas) i .head .kind))
+    (both (eqb (recordOf (x .areas) i .head .«held_node») 0) (eqb (happens w (turns i) x .reply .number) 0))
 
 -- how many turns of the sequence took a next number for a node
 unfoldable pub numbersTaken : ℕ → List Event → State → ℕ
@@ -68,7 +68,7 @@ pub record EventOk (w : ℕ) (e : Event) (x : State) : Type 0 where
 -- "With that many, a level is always left when one is needed; this is proved.": worker i is at Level or SetLevel and holds none
 pub record LevelLeft (w : ℕ) (i : ℕ) (x : State) : Type 0 where
   -- excludes: a machine that takes a next level though it holds a spare one; one that closes chains below the limit
-  pub left : (recordOf w (x .areas) i .head .kind ≡ Level) ⊎ (recordOf w (x .areas) i .head .kind ≡ SetLevel) → recordOf w (x .areas) i .head .«held_level» ≡ 0 → x .settings .«levels_taken» < levelCount w (x .settings)
+  pub left : (recordOf (x .areas) i .head .kind ≡ Level) ⊎ (recordOf (x .areas) i .head .kind ≡ SetLevel) → recordOf (x .areas) i .head .«held_level» ≡ 0 → x .settings .«levels_taken» < levelCount w (x .settings)
 
 -- demand 3 of a sequence es from a state x that a carried out opening left
 pub record Demand3 (w : ℕ) (x : State) (es : List Event) : Type 0 where
@@ -82,7 +82,10 @@ pub record Demand3 (w : ℕ) (x : State) (es : List Event) : Type 0 where
   pub taken : (before rest : List Event) → es ≡ before ++ rest → stateAfter w before x .settings .«nodes_taken» ≡ numbersTaken w before x
   -- excludes: a machine that runs out of levels under some order of turns; one that drops its level after a failed Close
   pub level-left : (before rest : List Event) → es ≡ before ++ rest → (i : ℕ) → i < x .settings .workers → LevelLeft w i (stateAfter w before x)
+  -- so that each start and turn is one at the width of the settings that it gets
+  -- excludes: a machine whose turn gives back settings with another width; one whose Take gives them back with width 3
+  pub width-stays : (before rest : List Event) → es ≡ before ++ rest → stateAfter w before x .settings .width ≡ x .settings .width
 
 -- "It begins with the settings and areas that a carried out opening left, whatever the areas held before."
-abbrev pub Statement : ℕ → Type 0
-Statement w = (s : Settings) (a : Areas) → opening w s a .reply .number ≡ 0 → (es : List Event) → Demand3 w (after (opening w s a)) es
+abbrev pub Statement : ℕ → Settings → Type 0
+Statement w s = (a : Areas) → opening w s a .reply .number ≡ 0 → (es : List Event) → Demand3 w (after (opening w s a)) es

@@ -19,12 +19,12 @@ pub record SameFrom (n : ℕ) (l l′ : List ℕ) : Type 0 where
 pub record Untouched (w : ℕ) (s : Settings) (a a′ : Areas) : Type 0 where
   pub nodes : SameFrom (nodeWords * s .nodes) (a .nodes) (a′ .nodes)
   pub levels : SameFrom (levelWords w * levelCount w s) (a .levels) (a′ .levels)
-  pub workers : SameFrom (workerWords w * s .workers) (a .workers) (a′ .workers)
+  pub workers : SameFrom (workerWords * s .workers) (a .workers) (a′ .workers)
 
--- every operation, over settings and memory of any content, refused or carried out
-pub record ExcessStays (w : ℕ) : Type 0 where
-  pub of-opening : (s : Settings) (a : Areas) → Untouched w s a (opening w s a .areas)
-  pub of-start : (s : Settings) (i row column : ℕ) (a : Areas) → Untouched w s a (start w s i row column a .areas)
-  pub of-turn : (s : Settings) (i : ℕ) (a : Areas) → Untouched w s a (turn w s i a .areas)
-  pub of-turns : (s : Settings) (l : List ℕ) (limit : ℕ) (a : Areas) → Untouched w s a (turns w s l limit a .areas)
-  pub of-last : (s : Settings) (i : ℕ) (a : Areas) → Untouched w s a (lastAnswer w s i a .areas)
+-- every operation, over settings and memory of any content, refused or carried out; it holds at the width that the settings give
+pub record ExcessStays (w : ℕ) (s : Settings) : Type 0 where
+  pub of-opening : (a : Areas) → Untouched w s a (opening w s a .areas)
+  pub of-start : (i row column : ℕ) (a : Areas) → Untouched w s a (start w s i row column a .areas)
+  pub of-turn : (i : ℕ) (a : Areas) → Untouched w s a (turn w s i a .areas)
+  pub of-turns : (l : List ℕ) (limit : ℕ) (a : Areas) → Untouched w s a (turns w s l limit a .areas)
+  pub of-last : (i : ℕ) (a : Areas) → Untouched w s a (lastAnswer w s i a .areas)

@@ -25,7 +25,7 @@ use Rattle.rules.specs.Operations.{Result, recordOf, memoryOf, turn}
 use Rattle.rules.specs.Lists.{State, state, after}
 use Rattle.rules.specs.Lists as many
 use Rattle.rules.specs.Calls.{Event, starts, turns, happens}
-use Rattle.rules.specs.Sequences.{lists, eventsOf}
+use Rattle.rules.specs.Sequences.{listEvents}
 
 -- A worker is committed to a cell from the turn that read it as the worker's level to the turn that exchanges it from that level; its kind tells.
 -- free: it is not; later: another turn exchanges the cell; now: this turn does
@@ -80,13 +80,13 @@ doomedBy w h m (now x) = not (expected h (cellAt w m x))
 -- of the record of worker i in a state
 unfoldable pub doomed : ℕ → ℕ → State → Bool
 doomed w i x =
-    let r : Record = recordOf w (x .areas) i in
+    let r : Record = recordOf (x .areas) i in
     doomedBy w (r .head) (memoryOf (x .areas)) (commits (r .head .kind) w (r .head) (r .moves) (memoryOf (x .areas)))
 
 -- of a start or a turn in a state: a start makes no exchange, nor does a turn that is refused
 unfoldable pub exchangeAt : ℕ → Event → State → Exchange
 exchangeAt w (starts i row column) x = None
-exchangeAt w (turns i) x = pick (eqb (turn w (x .settings) i (x .areas) .reply .number) 0) (exchangeOf w (recordOf w (x .areas) i) (memoryOf (x .areas))) None
+exchangeAt w (turns i) x = pick (eqb (turn w (x .settings) i (x .areas) .reply .number) 0) (exchangeOf w (recordOf (x .areas) i) (memoryOf (x .areas))) None
 
 -- 1 if it is done
 unfoldable pub doneIn : Exchange → ℕ
@@ -127,5 +127,5 @@ report r d f = record { result = r; done = d; failed = f }
 -- list that is refused has none
 unfoldable pub listReport : ℕ → Settings → List ℕ → ℕ → Areas → Report
 listReport w s l limit a =
-    let es : List Event = eventsOf w (lists l limit) (state s a) in
+    let es : List Event = listEvents w l limit (state s a) in
     report (many.turns w s l limit a) (successes w es (state s a)) (failures w es (state s a))

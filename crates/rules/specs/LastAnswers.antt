@@ -40,5 +40,5 @@ ReadsTold w x es i =
     × (lastAnswer w (stateAfter w es x .settings) i (stateAfter w es x .areas) .reply .answer ≡ told i (history w es x) Nothing)
 
 -- for every carried out opening, every sequence of starts and turns, and every worker of the table
-abbrev pub LastAnswers : ℕ → Type 0
-LastAnswers w = (s : Settings) (a : Areas) → opening w s a .reply .number ≡ 0 → (es : List Event) (i : ℕ) → i < s .workers → ReadsTold w (after (opening w s a)) es i
+abbrev pub LastAnswers : ℕ → Settings → Type 0
+LastAnswers w s = (a : Areas) → opening w s a .reply .number ≡ 0 → (es : List Event) (i : ℕ) → i < s .workers → ReadsTold w (after (opening w s a)) es i

@@ -60,7 +60,7 @@ metSix w v = eqb (turnAt w v .reply .number) 6
 
 -- "the entries reached whose worker had a call open, "full" included, the one that met 6 not"
 unfoldable pub counts : ℕ → Visit → Bool
-counts w v = both (question8 (recordOf w (v .before .areas) (v .worker))) (not (metSix w v))
+counts w v = both (question8 (recordOf (v .before .areas) (v .worker))) (not (metSix w v))
 
 -- "the number of turns done"
 unfoldable pub turnsDone : ℕ → List Visit → ℕ

@@ -1,10 +1,10 @@
 -- The twelve kinds of turn of a Move of H's chain to G: v is the innermost Move, os are those around it, N the node v remembered last.
 -- Relies on the steps that searching and moving share.
-use Prim.Native.Nat.{ℕ, _-_}
+use Prim.Native.Nat.{ℕ}
 use mathlib.Core.List.{List, [], _∷_}
 use lib.Dec.{eqb}
 use Rattle.words.specs.Choice.{pick}
-use Rattle.words.specs.Digits.{depths}
+use Rattle.words.specs.Digits.{lastDepth}
 use Rattle.settings.specs.declared.Settings.{Settings}
 use Rattle.areas.specs.Memory.{Memory, levelRef, nodeRef, isNode, named, pixelAt, nextAt, entryCell, cellAt, setCell}
 use Rattle.areas.specs.declared.Cell.{Cell}
@@ -47,7 +47,7 @@ setReadWord s h v os word m = setMet s h v os 1 (named word) word m
 -- "a node: count + 1; a level: go back to the child of G and set N there"
 unfoldable pub setFollowWord : ℕ → Settings → Head → Move → List Move → ℕ → Memory → Step
 setFollowWord w s h v os word m =
-    setMet s h v os (more s (h .count)) (childOf w (m .levels) (depths w - 1) (h .level) (named word)) word m
+    setMet s h v os (more s (h .count)) (childOf w (m .levels) (lastDepth w) (h .level) (named word)) word m
 
 -- SetPut and SetAppend: "if it is G, exchange it to N, done"
 unfoldable pub setNode : ℕ → (ℕ → Memory → Step) → Settings → Head → Move → List Move → Cell → Memory → Step

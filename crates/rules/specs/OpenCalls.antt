@@ -31,11 +31,11 @@ pixelTold i (h ∷ hs) before = pixelTold i hs (pixelBy i (h .event) (h .reply) 
 pub record OpenCall (w : ℕ) (x : State) (es : List Event) (i : ℕ) : Type 0 where
   -- a start is refused by 7, and a turn is not by 8, exactly while the history has a call of the worker open
   -- excludes: a machine that idles a worker without an answer; one that answers and leaves the call open
-  pub open-told : Iff (question7 (recordOf w (stateAfter w es x .areas) i) ≡ false) (told i (history w es x) Nothing ≡ Open)
+  pub open-told : Iff (question7 (recordOf (stateAfter w es x .areas) i) ≡ false) (told i (history w es x) Nothing ≡ Open)
   -- "A call's row is printed .. with the call's pixel."
   -- excludes: a machine whose record has another pixel than its start's, amid a Move or after it
-  pub pixel-told : recordOf w (stateAfter w es x .areas) i .head .pixel ≡ pixelTold i (history w es x) 0
+  pub pixel-told : recordOf (stateAfter w es x .areas) i .head .pixel ≡ pixelTold i (history w es x) 0
 
 -- for every carried out opening, every sequence of starts and turns, and every worker of the table
-abbrev pub OpenCalls : ℕ → Type 0
-OpenCalls w = (s : Settings) (a : Areas) → opening w s a .reply .number ≡ 0 → (es : List Event) (i : ℕ) → i < s .workers → OpenCall w (after (opening w s a)) es i
+abbrev pub OpenCalls : ℕ → Settings → Type 0
+OpenCalls w s = (a : Areas) → opening w s a .reply .number ≡ 0 → (es : List Event) (i : ℕ) → i < s .workers → OpenCall w (after (opening w s a)) es i

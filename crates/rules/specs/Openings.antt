@@ -16,7 +16,7 @@ use Rattle.rules.specs.Excess.{SameFrom}
 pub record Keeps (w : ℕ) (s : Settings) (a a′ : Areas) : Type 0 where
   pub nodes-stay : a′ .nodes ≡ a .nodes
   pub levels-stay : SameFrom (levelWords w) (a .levels) (a′ .levels)
-  pub workers-stay : SameFrom (workerWords w * s .workers) (a .workers) (a′ .workers)
+  pub workers-stay : SameFrom (workerWords * s .workers) (a .workers) (a′ .workers)
 
 abbrev pub OpeningKeeps : ℕ → Type 0
 OpeningKeeps w = (s : Settings) (a : Areas) → Keeps w s a (opening w s a .areas)

@@ -22,6 +22,10 @@ use Rattle.rules.specs.Steps.{Step}
 use Rattle.rules.specs.Acts.{act}
 use Rattle.rules.specs.Asked.{question4, question5, question6, question6Record, question7, question8, question9}
 
+-- a statement over a width and settings, at the width that the settings give
+abbrev pub AtWidth : (ℕ → Settings → Type 0) → Type 0
+AtWidth P = (s : Settings) → P (s .width) s
+
 -- what an operation gives back, and the areas that it leaves
 pub record Result : Type 0 where
   pub reply : Reply
@@ -48,8 +52,8 @@ abbrev pub memoryOf : Areas → Memory
 memoryOf a = memory (a .nodes) (a .levels)
 
 -- the record of worker i
-abbrev pub recordOf : ℕ → Areas → ℕ → Record
-recordOf w a i = load w (a .workers) i
+abbrev pub recordOf : Areas → ℕ → Record
+recordOf a i = load (a .workers) i
 
 -- question 2 of the areas' words
 abbrev pub question2Of : ℕ → Settings → Areas → Bool
@@ -72,22 +76,22 @@ startQuestions w s i row column a =
     ∷ asks 3 (question3 w s)
     ∷ asks 4 (question4 s i)
     ∷ asks 5 (question5 row column)
-    ∷ asks 6 (question6Record w s (recordOf w a i))
-    ∷ asks 7 (question7 (recordOf w a i))
+    ∷ asks 6 (question6Record w s (recordOf a i))
+    ∷ asks 7 (question7 (recordOf a i))
     ∷ []
 
 -- the areas with another record of worker i
-abbrev pub withRecord : ℕ → ℕ → Record → Areas → Areas
-withRecord w i r a = areas (a .nodes) (a .levels) (store w r i (a .workers))
+abbrev pub withRecord : ℕ → Record → Areas → Areas
+withRecord i r a = areas (a .nodes) (a .levels) (store r i (a .workers))
 
 -- the worker stands before Look at the root
-unfoldable pub startedAreas : ℕ → ℕ → ℕ → ℕ → Areas → Areas
-startedAreas w i row column a = withRecord w i (record′ (started (pixelNumber row column) (recordOf w a i .head)) []) a
+unfoldable pub startedAreas : ℕ → ℕ → ℕ → Areas → Areas
+startedAreas i row column a = withRecord i (record′ (started (pixelNumber row column) (recordOf a i .head)) []) a
 
 -- start of a call: its answer is "open"
 unfoldable pub start : ℕ → Settings → ℕ → ℕ → ℕ → Areas → Result
 start w s i row column a =
-    unlessRefused (firstNo (startQuestions w s i row column a)) s a (result (reply 0 Open 0 s) (startedAreas w i row column a))
+    unlessRefused (firstNo (startQuestions w s i row column a)) s a (result (reply 0 Open 0 s) (startedAreas i row column a))
 
 -- One turn of worker i
 unfoldable pub turnQuestions : ℕ → Settings → ℕ → Areas → List Question
@@ -96,30 +100,30 @@ turnQuestions w s i a =
     ∷ asks 2 (question2Of w s a)
     ∷ asks 3 (question3 w s)
     ∷ asks 4 (question4 s i)
-    ∷ asks 6 (question6 w s (recordOf w a i) (memoryOf a))
-    ∷ asks 8 (question8 (recordOf w a i))
-    ∷ asks 9 (question9 s (recordOf w a i))
+    ∷ asks 6 (question6 w s (recordOf a i) (memoryOf a))
+    ∷ asks 8 (question8 (recordOf a i))
+    ∷ asks 9 (question9 s (recordOf a i))
     ∷ []
 
 -- a turn that is carried out: "A worker's record goes into a turn and comes out of it."
-unfoldable pub taken : ℕ → Step → ℕ → List ℕ → Result
-taken w t i workers =
-    result (reply 0 (t .answer) 0 (t .settings)) (areas (t .memory .nodes) (t .memory .levels) (store w (t .record′) i workers))
+unfoldable pub taken : Step → ℕ → List ℕ → Result
+taken t i workers =
+    result (reply 0 (t .answer) 0 (t .settings)) (areas (t .memory .nodes) (t .memory .levels) (store (t .record′) i workers))
 
 -- "Number 9 alone makes the worker idle with answer "full"."
 unfoldable pub fullRecord : Head → Record
 fullRecord h = record′ (ended 3 0 (h .«held_node») h) []
 
 -- the call ends "full"
-unfoldable pub full : ℕ → Settings → ℕ → Areas → Result
-full w s i a = result (reply 9 Full 0 s) (withRecord w i (fullRecord (recordOf w a i .head)) a)
+unfoldable pub full : Settings → ℕ → Areas → Result
+full s i a = result (reply 9 Full 0 s) (withRecord i (fullRecord (recordOf a i .head)) a)
 
 -- one turn: refused, ended "full", or carried out
 unfoldable pub turn : ℕ → Settings → ℕ → Areas → Result
 turn w s i a =
     pick (eqb (firstNo (turnQuestions w s i a)) 9)
-    (full w s i a)
-    (unlessRefused (firstNo (turnQuestions w s i a)) s a (taken w (act w s (recordOf w a i) (memoryOf a)) i (a .workers)))
+    (full s i a)
+    (unlessRefused (firstNo (turnQuestions w s i a)) s a (taken (act w s (recordOf a i) (memoryOf a)) i (a .workers)))
 
 -- Last answer of worker i: "gives "none" before a worker's first end and "open" during a call"
 unfoldable pub lastQuestions : ℕ → Settings → ℕ → Areas → List Question
@@ -128,7 +132,7 @@ lastQuestions w s i a =
     ∷ asks 2 (question2Of w s a)
     ∷ asks 3 (question3 w s)
     ∷ asks 4 (question4 s i)
-    ∷ asks 6 (question6Record w s (recordOf w a i))
+    ∷ asks 6 (question6Record w s (recordOf a i))
     ∷ []
 
 -- the answer that a record's head holds
@@ -138,4 +142,4 @@ lastOf h = pick (eqb (kindNo (h .kind)) 0) (answerOf (h .answer) (h .«answer_no
 -- last answer: it changes nothing
 unfoldable pub lastAnswer : ℕ → Settings → ℕ → Areas → Result
 lastAnswer w s i a =
-    unlessRefused (firstNo (lastQuestions w s i a)) s a (result (reply 0 (lastOf (recordOf w a i .head)) 0 s) a)
+    unlessRefused (firstNo (lastQuestions w s i a)) s a (result (reply 0 (lastOf (recordOf a i .head)) 0 s) a)

@@ -11,11 +11,12 @@ use Rattle.areas.specs.Memory.{Areas}
 use Rattle.rules.specs.Operations.{start, turn}
 
 -- the workers' area before and after: as many words, and the same ones but for those of worker i
-pub record OthersStay (w i : ℕ) (l l′ : List ℕ) : Type 0 where
+pub record OthersStay (i : ℕ) (l l′ : List ℕ) : Type 0 where
   pub size : length l′ ≡ length l
-  pub words : (k : ℕ) → (k < workerWords w * i) ⊎ (workerWords w * i + workerWords w ≤ k) → getD l′ k 0 ≡ getD l k 0
+  pub words : (k : ℕ) → (k < workerWords * i) ⊎ (workerWords * i + workerWords ≤ k) → getD l′ k 0 ≡ getD l k 0
 
+-- at the width that the settings give
 -- excludes: a failed Put that writes its node into another worker's record as that worker's spare; a start that makes another worker idle
-pub record OwnRecord (w : ℕ) : Type 0 where
-  pub of-start : (s : Settings) (i row column : ℕ) (a : Areas) → OthersStay w i (a .workers) (start w s i row column a .areas .workers)
-  pub of-turn : (s : Settings) (i : ℕ) (a : Areas) → OthersStay w i (a .workers) (turn w s i a .areas .workers)
+pub record OwnRecord (w : ℕ) (s : Settings) : Type 0 where
+  pub of-start : (i row column : ℕ) (a : Areas) → OthersStay i (a .workers) (start w s i row column a .areas .workers)
+  pub of-turn : (i : ℕ) (a : Areas) → OthersStay i (a .workers) (turn w s i a .areas .workers)

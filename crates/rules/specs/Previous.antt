@@ -23,5 +23,5 @@ LevelsStay w x =
     (before more : List Event) (g : ℕ) → Reached w (memoryOf (stateAfter w before x .areas)) (levelRef g) → Stays w (memoryOf (stateAfter w before x .areas)) (memoryOf (stateAfter w more (stateAfter w before x) .areas)) g
 
 -- for every carried out opening
-abbrev pub PreviousStays : ℕ → Type 0
-PreviousStays w = (s : Settings) (a : Areas) → opening w s a .reply .number ≡ 0 → LevelsStay w (after (opening w s a))
+abbrev pub PreviousStays : ℕ → Settings → Type 0
+PreviousStays w s = (a : Areas) → opening w s a .reply .number ≡ 0 → LevelsStay w (after (opening w s a))

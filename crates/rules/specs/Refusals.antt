@@ -38,7 +38,7 @@ pub record Refuses (qs : List Question) (s : Settings) (a : Areas) (r : Result) 
 pub record RefusesTurn (w : ℕ) (s : Settings) (i : ℕ) (a : Areas) : Type 0 where
   pub numbered : Numbered (turnQuestions w s i a) (turn w s i a)
   pub unchanged : turn w s i a .reply .number ≢ 0 → turn w s i a .reply .number ≢ 9 → (turn w s i a ≡ refused (turn w s i a .reply .number) s a) × (after (turn w s i a) ≡ state s a)
-  pub full-ends : turn w s i a .reply .number ≡ 9 → (turn w s i a ≡ full w s i a) × (turn w s i a .reply .settings ≡ s)
+  pub full-ends : turn w s i a .reply .number ≡ 9 → (turn w s i a ≡ full s i a) × (turn w s i a .reply .settings ≡ s)
 
 -- a list of turns that met 6: the entries before it, and the entry that met it, which changed nothing
 pub record MetSix (w : ℕ) (s : Settings) (l : List ℕ) (limit : ℕ) (a : Areas) : Type 0 where

@@ -4,7 +4,7 @@ use Prim.Native.Nat.{ℕ, _-_}
 use mathlib.Core.List.{List, []}
 use lib.Dec.{eqb}
 use Rattle.words.specs.Choice.{pick}
-use Rattle.words.specs.Digits.{depths}
+use Rattle.words.specs.Digits.{lastDepth}
 use Rattle.settings.specs.declared.Settings.{Settings}
 use Rattle.areas.specs.Memory.{Memory, nodeRef, isNode, named, pixelAt, nextAt, entryCell, cellAt}
 use Rattle.areas.specs.declared.Cell.{Cell}
@@ -44,7 +44,7 @@ readWord s h word m = met s h 1 (named word) word m
 
 -- Follow's word: "Other node: Tail, count + 1. Level: go back by previous words until the one whose previous is H, and Look there"
 unfoldable pub followWord : ℕ → Settings → Head → ℕ → Memory → Step
-followWord w s h word m = met s h (more s (h .count)) (childOf w (m .levels) (depths w - 1) (h .level) (named word)) word m
+followWord w s h word m = met s h (more s (h .count)) (childOf w (m .levels) (lastDepth w) (h .level) (named word)) word m
 
 -- "Look (level H): read K's entry. H: Take. Otherwise: Read."
 unfoldable pub look : ℕ → Settings → Head → Memory → Step

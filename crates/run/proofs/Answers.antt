@@ -127,11 +127,11 @@ pixel-fits w s r k i =
     call b y = leb-true _ _ (both-left _ _ (both-left _ _ y))
 
 -- the pixel of the call of a turn that was asked question 9
-pub asked-pixel : {w : ℕ} {s : Settings} {i : ℕ} {a : Areas} {n : ℕ} → TurnAsked w s i a n → recordOf w a i .head .pixel ≤ maxPixel
+pub asked-pixel : {w : ℕ} {s : Settings} {i : ℕ} {a : Areas} {n : ℕ} → TurnAsked w s i a n → recordOf a i .head .pixel ≤ maxPixel
 unfolding question6 question7 fits
-asked-pixel {w} {s} {i} {a} y = pixel-fits w s (recordOf w a i) (kindNo (recordOf w a i .head .kind)) (y .busy) (both-left _ _ (y .six))
+asked-pixel {w} {s} {i} {a} y = pixel-fits w s (recordOf a i) (kindNo (recordOf a i .head .kind)) (y .busy) (both-left _ _ (y .six))
 
 -- the answer of a turn that is carried out
-pub act-below : {w : ℕ} {s : Settings} {i : ℕ} {a : Areas} {n : ℕ} → TurnAsked w s i a n → NodeBelow (s .«nodes_taken») (act w s (recordOf w a i) (memoryOf a) .answer)
+pub act-below : {w : ℕ} {s : Settings} {i : ℕ} {a : Areas} {n : ℕ} → TurnAsked w s i a n → NodeBelow (s .«nodes_taken») (act w s (recordOf a i) (memoryOf a) .answer)
 unfolding act question6
-act-below {w} {s} {i} {a} y = kind-below w s (recordOf w a i .head) (memoryOf a) (recordOf w a i .head .kind) (recordOf w a i .moves) (both-right _ _ (y .six))
+act-below {w} {s} {i} {a} y = kind-below w s (recordOf a i .head) (memoryOf a) (recordOf a i .head .kind) (recordOf a i .moves) (both-right _ _ (y .six))

@@ -23,7 +23,7 @@ use Rattle.text.specs.declared.Command.the-variants.{Sizes, Starts, Turns, Unre
 use Rattle.text.proofs.Command.{the-type}
 use Rattle.printing.specs.declared.Printed.{Printed}
 use Rattle.printing.specs.declared.Printed.the-variants.{Nothing, Refused}
-use Rattle.run.specs.Program.{Line, line, startLine, turnPrints, turnLine, carried, firstLine}
+use Rattle.run.specs.Program.{width, Line, line, startLine, turnPrints, turnLine, carried, firstLine}
 
 -- the operation's result, and what is printed of its reply
 pub start-way :
@@ -40,15 +40,15 @@ prints-by n i pixel number a e f = simp (e, f)
 
 pub turn-way :
     (n i : ℕ) (w : ℕ) (l : List ℕ) {r : Reply} {h : Head} {p : Printed} {a : Areas} {x : Result}
-    → p ≡ turnPrints n i (h .pixel) (r .number) (r .answer) → result r a ≡ x → h ≡ headAt w l i
-    → line p (state (r .settings) a) ≡ turnLine n i (headAt w l i .pixel) x
+    → p ≡ turnPrints n i (h .pixel) (r .number) (r .answer) → result r a ≡ x → h ≡ headAt l i
+    → line p (state (r .settings) a) ≡ turnLine n i (headAt l i .pixel) x
 unfolding turnLine
 turn-way n i w l e f g = simp (e, g, ← f)
 
 -- a later line by its command
 pub carried-start :
     (n : ℕ) (s : Settings) (a : Areas) (c : Command) {i row column : ℕ} {x : Line}
-    → x ≡ startLine n (start 3 s i row column a) → c ≡ Starts i row column → x ≡ carried n c (state s a)
+    → x ≡ startLine n (start (s .width) s i row column a) → c ≡ Starts i row column → x ≡ carried n c (state s a)
 unfolding carried
 carried-start n s a c e g = simp (g, e)
 
@@ -63,7 +63,7 @@ carried-other n s a Unread k = refl
 
 pub carried-turn :
     (n : ℕ) (s : Settings) (nodes levels workers : List ℕ) (c : Command) {i : ℕ} {x : Line}
-    → x ≡ turnLine n i (headAt 3 workers i .pixel) (turn 3 s i (areas nodes levels workers)) → c ≡ Turns i
+    → x ≡ turnLine n i (headAt workers i .pixel) (turn (s .width) s i (areas nodes levels workers)) → c ≡ Turns i
     → x ≡ carried n c (state s (areas nodes levels workers))
 unfolding carried load
 carried-turn n s nodes levels workers c e g = simp (g, e)
@@ -71,26 +71,26 @@ carried-turn n s nodes levels workers c e g = simp (g, e)
 -- the first line
 module _ (s : Settings) (a : Areas) where
   pub sizes-open :
-      {x : Result} → x ≡ opening 3 s a → leb (s .nodes) 128 ≡ true → x ≡ pick (leb (s .nodes) 128) (opening 3 s a) (refused 1 s a)
+      {x : Result} → x ≡ opening (s .width) s a → leb (s .nodes) 128 ≡ true → x ≡ pick (leb (s .nodes) 128) (opening (s .width) s a) (refused 1 s a)
   unfolding pick
   sizes-open e t = simp (t, e)
 
   pub sizes-refused :
-      {r : Reply} → r ≡ reply 1 answer.Nothing 0 s → leb (s .nodes) 128 ≡ false → result r a ≡ pick (leb (s .nodes) 128) (opening 3 s a) (refused 1 s a)
+      {r : Reply} → r ≡ reply 1 answer.Nothing 0 s → leb (s .nodes) 128 ≡ false → result r a ≡ pick (leb (s .nodes) 128) (opening (s .width) s a) (refused 1 s a)
   unfolding pick
   sizes-refused e t = simp (t, e)
 
 module _ (c : Command) (a : Areas) where
   pub first-sizes :
       {workers limit nodes : ℕ} {s : Settings} {x : Result}
-      → x ≡ pick (leb (s .nodes) 128) (opening 3 s a) (refused 1 s a) → s ≡ fresh workers limit nodes → c ≡ Sizes workers limit nodes
+      → x ≡ pick (leb (s .nodes) 128) (opening (s .width) s a) (refused 1 s a) → s ≡ fresh workers limit nodes width → c ≡ Sizes workers limit nodes
       → x ≡ firstLine c a
   unfolding firstLine fresh
   first-sizes e f g = simp (g, e, f)
 
 pub first-other :
     (c : Command) (a : Areas) {r : Reply} {s : Settings}
-    → r ≡ reply 10 answer.Nothing 0 s → s ≡ fresh 0 0 0 → OneOf (1 ∷ 2 ∷ 3 ∷ []) (tagOf the-type c) → result r a ≡ firstLine c a
+    → r ≡ reply 10 answer.Nothing 0 s → s ≡ fresh 0 0 0 width → OneOf (1 ∷ 2 ∷ 3 ∷ []) (tagOf the-type c) → result r a ≡ firstLine c a
 unfolding firstLine
 first-other (Sizes workers limit nodes) a e f k = absurd (miss (1 ∷ 2 ∷ 3 ∷ []) 0 tt k)
 first-other (Starts i row column) a e f k = simp (e, f)

@@ -1,7 +1,7 @@
 -- Every number that is printed has at most five digits: what holds of the settings from line to line, and of what each line prints.
 -- Relies on rules for the questions, on turns for what a turn keeps, on what a turn answers.
 use Prim.Native.Nat.{ℕ, suc, _+_, _≤_, _<_}
-use mathlib.Core.Path.{_≡_, refl, sym, ap, _∙_}
+use mathlib.Core.Path.{_≡_, refl, sym, ap, subst, _∙_}
 use mathlib.Core.Bool.{true}
 use mathlib.Core.List.{List, [], _∷_}
 use native.Mathlib.Omega.{arith}
@@ -10,12 +10,11 @@ use lib.Dec.{eqb, leb}
 use lib.ListN.{length}
 use borrow.Author.Tests.{leb-true, ltb-true, le-leb, eqb-true}
 use Rattle.words.specs.Choice.{every}
-use Rattle.words.specs.Digits.{depths}
 use Rattle.words.proofs.Choice.{pick-both, both-left, both-right, both-true}
 use Rattle.settings.specs.Sizes.{levelCount, fresh, within, question1, question3}
-use Rattle.settings.specs.Cut.{Within, Ranges, Sized}
+use Rattle.settings.specs.Cut.{Sized}
 use Rattle.settings.specs.declared.Settings.{Settings}
-use Rattle.settings.proofs.Laws.{within-true, ranges}
+use Rattle.settings.proofs.Laws.{counts-sized}
 use Rattle.areas.specs.Memory.{Areas}
 use Rattle.record.specs.declared.Answer.{Answer}
 use Rattle.record.specs.declared.Answer.the-variants as answer
@@ -28,7 +27,7 @@ use Rattle.rules.proofs.OneTurn.{turn-number, done-number, nine-is-full, turn-r
 use Rattle.rules.proofs.TurnAsked.{TurnAsked, turn-asked}
 use Rattle.rules.proofs.Refused.{refuses-opening}
 use Rattle.rules.proofs.Carried.{opening-done}
-use Rattle.rules.proofs.Three.{Three, three-stays}
+use Rattle.rules.proofs.Three.{Three, sizes-stay, three-stays}
 use Rattle.text.specs.Parts.{lineEnd, longer, split}
 use Rattle.text.specs.Commands.{command}
 use Rattle.text.specs.declared.Command.{Command}
@@ -41,17 +40,17 @@ use Rattle.run.proofs.Answers.{NodeBelow, asked-pixel, act-below}
 -- what holds of the settings from line to line: questions 1 and 3
 record Sound (s : Settings) : Type 0 where
   one : question1 s ≡ true
-  three : question3 width s ≡ true
+  three : question3 (s .width) s ≡ true
 
 -- a turn: where it is carried out its questions were answered yes, else it keeps the settings
-turn-sound : (s : Settings) (i : ℕ) (a : Areas) → Sound s → Sound (turn width s i a .reply .settings)
+turn-sound : (s : Settings) (i : ℕ) (a : Areas) → Sound s → Sound (turn (s .width) s i a .reply .settings)
 unfolding turnQuestions every full
-turn-sound s i a y = by (ℕ-discrete (turn width s i a .reply .number) 0) (ℕ-discrete (turn width s i a .reply .number) 9)
+turn-sound s i a y = by (ℕ-discrete (turn (s .width) s i a .reply .number) 0) (ℕ-discrete (turn (s .width) s i a .reply .number) 9)
   where
-    by : Dec (turn width s i a .reply .number ≡ 0) → Dec (turn width s i a .reply .number ≡ 9) → Sound (turn width s i a .reply .settings)
+    by : Dec (turn (s .width) s i a .reply .number ≡ 0) → Dec (turn (s .width) s i a .reply .number ≡ 9) → Sound (turn (s .width) s i a .reply .settings)
     by (yes z) d =
-        let all = refuses-turn width s i a .numbered .carried .0 z in
-        let x : Three width (s .workers) (state s a) =
+        let all = refuses-turn (s .width) s i a .numbered .carried .0 z in
+        let x : Three (s .width) (s .workers) (state s a) =
         record {
           workers-is = refl;
           one = both-left _ _ all;
@@ -59,42 +58,38 @@ turn-sound s i a y = by (ℕ-discrete (turn width s i a .reply .number) 0) (ℕ-
           three = both-left _ _ (both-right _ _ (both-right _ _ all));
         }
         in
-        let t = three-stays width (state s a) i x in
-        record { one = t .one; three = t .three }
-    by (no z) (yes e) = rw (nine-is-full width s i a e, full) y
-    by (no z) (no e) = rw (turn-refused width s i a z e) y
+        let t = three-stays (s .width) (state s a) i x in
+        let r : Settings = turn (s .width) s i a .reply .settings in
+        record { one = t .one; three = subst (λ v. question3 v r ≡ true) (sym (sizes-stay (s .width) (state s a) i .width-is)) (t .three) }
+    by (no z) (yes e) = rw (nine-is-full (s .width) s i a e, full) y
+    by (no z) (no e) = rw (turn-refused (s .width) s i a z e) y
 
 -- a start keeps the settings
-start-sound : (s : Settings) (i row column : ℕ) (a : Areas) → Sound s → Sound (start width s i row column a .reply .settings)
+start-sound : (s : Settings) (i row column : ℕ) (a : Areas) → Sound s → Sound (start (s .width) s i row column a .reply .settings)
 unfolding start unlessRefused
 start-sound s i row column a y = pick-both (λ (r : Result). Sound (r .reply .settings)) _ (λ e. y) (λ e. y)
 
 -- an opening that is carried out
-opening-sound : (workers limit nodes : ℕ) (a : Areas) → opening width (fresh workers limit nodes) a .reply .number ≡ 0 → Sound (opening width (fresh workers limit nodes) a .reply .settings)
+opening-sound : (workers limit nodes : ℕ) (a : Areas) → opening width (fresh workers limit nodes width) a .reply .number ≡ 0 → Sound (opening width (fresh workers limit nodes width) a .reply .settings)
 unfolding openingQuestions every question3 within levelCount openedSettings fresh
 opening-sound workers limit nodes a z =
-    rw (opening-done width (fresh workers limit nodes) a z)
+    rw (opening-done width (fresh workers limit nodes width) a z)
     (record {
-      one = both-left _ _ (refuses-opening width (fresh workers limit nodes) a .numbered .carried .0 z);
-      three = both-true (le-leb 0 nodes (omega arith)) (both-true (le-leb 1 1 (omega arith)) (le-leb 1 (levelCount width (fresh workers limit nodes)) (omega arith)));
+      one = both-left _ _ (refuses-opening width (fresh workers limit nodes width) a .numbered .carried .0 z);
+      three = both-true (le-leb 0 nodes (omega arith)) (both-true (le-leb 1 1 (omega arith)) (le-leb 1 (levelCount width (fresh workers limit nodes width)) (omega arith)));
     })
 
 -- what that says of the numbers
 sized : (s : Settings) → Sound s → Sized s
-unfolding question3 levelCount depths
-sized s y =
-    let r : Ranges s = ranges s (y .one) in
-    let n : s .«nodes_taken» ≤ s .nodes = leb-true _ _ (both-left _ _ (y .three)) in
-    let l : Within (s .«levels_taken») (levelCount width s) = within-true _ _ (both-right (leb (s .«nodes_taken») (s .nodes)) _ (y .three)) in
-    record { ranges = r; nodes = n; levels = omega arith }
+sized s y = counts-sized s (y .one) (y .three)
 
 -- the fields of a call that ended
-call-five : (s : Settings) (i : ℕ) (a : Areas) {n : ℕ} → TurnAsked width s i a n → FiveCall i (recordOf width a i .head .pixel)
+call-five : (s : Settings) (i : ℕ) (a : Areas) {n : ℕ} → TurnAsked (s .width) s i a n → FiveCall i (recordOf a i .head .pixel)
 unfolding question4
 call-five s i a y =
     let l : i < s .workers = ltb-true _ _ (y .four) in
     let c : Sized s = sized s (record { one = y .one; three = y .three }) in
-    let p : recordOf width a i .head .pixel ≤ 16777215 = asked-pixel y in
+    let p : recordOf a i .head .pixel ≤ 16777215 = asked-pixel y in
     (omega arith, omega arith, omega arith)
 
 -- what a turn prints
@@ -106,29 +101,29 @@ answer-five n i pixel number taken (answer.Found m) l k c t b = (c, omega arith)
 answer-five n i pixel number taken answer.Full l k c t b = c
 answer-five n i pixel number taken answer.Open l k c t b = tt
 
-turn-five : (n : ℕ) (s : Settings) (i : ℕ) (a : Areas) → Five n → Small (turnPrints n i (recordOf width a i .head .pixel) (turn width s i a .reply .number) (turn width s i a .reply .answer))
+turn-five : (n : ℕ) (s : Settings) (i : ℕ) (a : Areas) → Five n → Small (turnPrints n i (recordOf a i .head .pixel) (turn (s .width) s i a .reply .number) (turn (s .width) s i a .reply .answer))
 unfolding taken full Small turnPrints
-turn-five n s i a l = by (ℕ-discrete (turn width s i a .reply .number) 0) (ℕ-discrete (turn width s i a .reply .number) 9)
+turn-five n s i a l = by (ℕ-discrete (turn (s .width) s i a .reply .number) 0) (ℕ-discrete (turn (s .width) s i a .reply .number) 9)
   where
-    by : Dec (turn width s i a .reply .number ≡ 0) → Dec (turn width s i a .reply .number ≡ 9) → Small (turnPrints n i (recordOf width a i .head .pixel) (turn width s i a .reply .number) (turn width s i a .reply .answer))
+    by : Dec (turn (s .width) s i a .reply .number ≡ 0) → Dec (turn (s .width) s i a .reply .number ≡ 9) → Small (turnPrints n i (recordOf a i .head .pixel) (turn (s .width) s i a .reply .number) (turn (s .width) s i a .reply .answer))
     by (yes z) d =
-        let y = turn-asked width s i a (λ k l h e. omega arith) (sym (turn-number width s i a) ∙ z) in
+        let y = turn-asked (s .width) s i a (λ k l h e. omega arith) (sym (turn-number (s .width) s i a) ∙ z) in
         let c : Sized s = sized s (record { one = y .one; three = y .three }) in
-        rw (done-number width s i a z, taken)
-        (answer-five n i (recordOf width a i .head .pixel) 0 (s .«nodes_taken») (act width s (recordOf width a i) (memoryOf a) .answer) l (omega arith) (call-five s i a y) (omega arith) (act-below y))
+        rw (done-number (s .width) s i a z, taken)
+        (answer-five n i (recordOf a i .head .pixel) 0 (s .«nodes_taken») (act (s .width) s (recordOf a i) (memoryOf a) .answer) l (omega arith) (call-five s i a y) (omega arith) (act-below y))
     by (no z) (yes e) =
-        let y = turn-asked width s i a (λ k l h d. omega arith) (sym (turn-number width s i a) ∙ e) in
-        rw (nine-is-full width s i a e, full) (call-five s i a y)
+        let y = turn-asked (s .width) s i a (λ k l h d. omega arith) (sym (turn-number (s .width) s i a) ∙ e) in
+        rw (nine-is-full (s .width) s i a e, full) (call-five s i a y)
     by (no z) (no e) =
-        let b : turn width s i a .reply .number ≤ 9 = turn-gives width s i a in
-        rw (ap (λ (r : Result). r .reply .answer) (turn-refused width s i a z e)) (l, omega arith)
+        let b : turn (s .width) s i a .reply .number ≤ 9 = turn-gives (s .width) s i a in
+        rw (ap (λ (r : Result). r .reply .answer) (turn-refused (s .width) s i a z e)) (l, omega arith)
 
 -- a later line: what it prints, and the settings that it leaves
 carried-five : (n : ℕ) (c : Command) (x : State) → Five n → Small (carried n c x .printed)
 unfolding Small carried startLine turnLine
 carried-five n (Sizes workers limit nodes) x l = (l, omega arith)
 carried-five n (Starts i row column) x l =
-    let b : start width (x .settings) i row column (x .areas) .reply .number ≤ 9 = start-gives width (x .settings) i row column (x .areas) in
+    let b : start (x .settings .width) (x .settings) i row column (x .areas) .reply .number ≤ 9 = start-gives (x .settings .width) (x .settings) i row column (x .areas) in
     pick-both Small _ (λ e. tt) (λ e. (l, omega arith))
 carried-five n (Turns i) x l = turn-five n (x .settings) i (x .areas) l
 carried-five n Unread x l = (l, omega arith)
@@ -159,7 +154,7 @@ lines-five n (p ∷ q ∷ ps) x l y =
 first-number : (c : Command) (a : Areas) → firstLine c a .reply .number ≤ 10
 unfolding firstLine
 first-number (Sizes workers limit nodes) a =
-    let b : opening width (fresh workers limit nodes) a .reply .number ≤ 9 = opening-gives width (fresh workers limit nodes) a in
+    let b : opening width (fresh workers limit nodes width) a .reply .number ≤ 9 = opening-gives width (fresh workers limit nodes width) a in
     pick-both (λ (r : Result). r .reply .number ≤ 10) (leb nodes mostNodes) (λ e. omega arith) (λ e. omega arith)
 first-number (Starts i row column) a = omega arith
 first-number (Turns i) a = omega arith

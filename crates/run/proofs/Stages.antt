@@ -34,7 +34,7 @@ use Rattle.run.specs.declared.Said.{Said}
 use denote.Enum.Declared.{tagOf}
 use types.Run.{OneOf, miss}
 use Rattle.run.proofs.Stage.{the-type}
-use Rattle.run.specs.Program.{line, carried, firstLine, restPrints, linesPrint, openedPrints, inputPrints, prints}
+use Rattle.run.specs.Program.{width, line, carried, firstLine, restPrints, linesPrint, openedPrints, inputPrints, prints}
 use Rattle.run.specs.Remaining.{progress, told, begun, remainingAt, remaining, leftAt, left, counted, canStandAt, canStand, Prints, Next, goesOn}
 
 -- the choice where the test is known
@@ -47,7 +47,7 @@ unfolding pick
 picks-no b x f e = simp (e, f)
 
 -- where a run begins, and whether it goes on
-pub begin-way : {s : Settings} → s ≡ fresh 0 0 0 → progress Begin 1 0 s ≡ begun
+pub begin-way : {s : Settings} → s ≡ fresh 0 0 0 width → progress Begin 1 0 s ≡ begun
 begin-way e = simp e
 
 pub goes-not : (g : Stage) → g ≡ Done → false ≡ goesOn g

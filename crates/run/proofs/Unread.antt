@@ -52,8 +52,8 @@ turn-prints n i pixel number answer.Open h = refl
 carried-ten : (n : ℕ) (c : Command) (x : State) → tenLine (carried n c x .printed) ≡ pick (readsLater c) [] (n ∷ [])
 unfolding tenLine carried startLine turnLine readsLater pick
 carried-ten n (Sizes workers limit nodes) x = refl
-carried-ten n (Starts i row column) x = start-prints n _ (nine (start-gives width (x .settings) i row column (x .areas)))
-carried-ten n (Turns i) x = turn-prints n i _ _ _ (nine (turn-gives width (x .settings) i (x .areas)))
+carried-ten n (Starts i row column) x = start-prints n _ (nine (start-gives (x .settings .width) (x .settings) i row column (x .areas)))
+carried-ten n (Turns i) x = turn-prints n i _ _ _ (nine (turn-gives (x .settings .width) (x .settings) i (x .areas)))
 carried-ten n Unread x = refl
 
 rest-ten : (n : ℕ) (p : List ℕ) (x : State) → tenLines (restPrints n p x) ≡ unreadRest n p
@@ -80,7 +80,7 @@ opened-ten r ps h = go (eqb (r .reply .number) 0) refl
 sizes-not-ten : (workers limit nodes : ℕ) (a : Areas) → firstLine (Sizes workers limit nodes) a .reply .number ≢ 10
 unfolding firstLine
 sizes-not-ten workers limit nodes a =
-    pick-both (λ (r : Result). r .reply .number ≢ 10) (leb nodes mostNodes) (λ e. nine (opening-gives width (fresh workers limit nodes) a)) (λ e z. omega arith)
+    pick-both (λ (r : Result). r .reply .number ≢ 10) (leb nodes mostNodes) (λ e. nine (opening-gives width (fresh workers limit nodes width) a)) (λ e z. omega arith)
 
 first-ten : (c : Command) (ps : List (List ℕ)) (a : Areas) → tenLines (openedPrints (firstLine c a) ps) ≡ pick (readsFirst c) (pick (eqb (firstLine c a .reply .number) 0) (unreadFrom 2 ps) []) (1 ∷ [])
 unfolding readsFirst tenLines tenLine openedPrints firstLine pick

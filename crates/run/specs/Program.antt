@@ -45,15 +45,15 @@ turnPrints n i pixel number answer.Open = Nothing
 unfoldable pub turnLine : ℕ → ℕ → ℕ → Result → Line
 turnLine n i pixel r = line (turnPrints n i pixel (r .reply .number) (r .reply .answer)) (after r)
 
--- the digit width of the program's tables
+-- document 02: "The text program keeps width 3."
 abbrev pub width : ℕ
 width = 3
 
 -- line n, which is not the first: a line of another shape is 10, and so is a second line s
 unfoldable pub carried : ℕ → Command → State → Line
 carried n (Sizes workers limit nodes) x = line (Refused n 10) x
-carried n (Starts i row column) x = startLine n (start width (x .settings) i row column (x .areas))
-carried n (Turns i) x = turnLine n i (recordOf width (x .areas) i .head .pixel) (turn width (x .settings) i (x .areas))
+carried n (Starts i row column) x = startLine n (start (x .settings .width) (x .settings) i row column (x .areas))
+carried n (Turns i) x = turnLine n i (recordOf (x .areas) i .head .pixel) (turn (x .settings .width) (x .settings) i (x .areas))
 carried n Unread x = line (Refused n 10) x
 
 -- "here nodes above 128 is refusal 1"
@@ -62,10 +62,10 @@ mostNodes = 128
 
 -- "First line s,workers,limit,nodes (here nodes above 128 is refusal 1)"; another first line does not read
 unfoldable pub firstLine : Command → Areas → Result
-firstLine (Sizes workers limit nodes) a = pick (leb nodes mostNodes) (opening width (fresh workers limit nodes) a) (refused 1 (fresh workers limit nodes) a)
-firstLine (Starts i row column) a = refused 10 (fresh 0 0 0) a
-firstLine (Turns i) a = refused 10 (fresh 0 0 0) a
-firstLine Unread a = refused 10 (fresh 0 0 0) a
+firstLine (Sizes workers limit nodes) a = pick (leb nodes mostNodes) (opening width (fresh workers limit nodes width) a) (refused 1 (fresh workers limit nodes width) a)
+firstLine (Starts i row column) a = refused 10 (fresh 0 0 0 width) a
+firstLine (Turns i) a = refused 10 (fresh 0 0 0 width) a
+firstLine Unread a = refused 10 (fresh 0 0 0 width) a
 
 -- "The last line is the flagged count, which is nodes taken, then levels taken."
 abbrev pub endLine : State → Printed
@@ -104,8 +104,8 @@ spelled (p ∷ ps) = bytesOf p ++ spelled ps
 -- the memory that the program lends: zeros, with room for the most nodes and workers at every chain limit
 abbrev pub lent : Areas
 lent =
-    areas (replicate (nodeWords * mostNodes) 0) (replicate (levelWords width * levelCount width (fresh maxWorkers 1 mostNodes)) 0)
-    (replicate (workerWords width * maxWorkers) 0)
+    areas (replicate (nodeWords * mostNodes) 0) (replicate (levelWords width * levelCount width (fresh maxWorkers 1 mostNodes width)) 0)
+    (replicate (workerWords * maxWorkers) 0)
 
 -- the bytes that the program writes for the bytes that it reads
 abbrev pub output : List ℕ → List ℕ

@@ -18,7 +18,7 @@ use Rattle.run.specs.declared.Stage.{Stage}
 use Rattle.run.specs.declared.Stage.the-variants.{Begin, TooLong, First, Lines, Last, Done}
 use Rattle.run.specs.declared.Progress.{Progress}
 use Rattle.run.specs.declared.Told.{Told}
-use Rattle.run.specs.Program.{prints, inputPrints, linesPrint, endLine}
+use Rattle.run.specs.Program.{width, prints, inputPrints, linesPrint, endLine}
 
 -- where a run stands, by its parts: the stage, the number of the next line, the place of its first byte, the table's settings
 abbrev pub progress : Stage → ℕ → ℕ → Settings → Progress
@@ -30,7 +30,7 @@ told x p = record { printed = x; progress = p }
 
 -- where a run begins: nothing is printed yet, line 1 comes next
 abbrev pub begun : Progress
-begun = progress Begin 1 0 (fresh 0 0 0)
+begun = progress Begin 1 0 (fresh 0 0 0 width)
 
 -- what is still to be printed, by the stage. At the beginning it is all.
 unfoldable pub remainingAt : Stage → Progress → List ℕ → Areas → List Printed

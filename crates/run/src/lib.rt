@@ -79,7 +79,7 @@ fn start_line(
     levels: &[u32],
     workers: &mut [u32],
 ) -> Said
-    ensures { λ r. ⌜ line (r .printed) (state (r .settings) (areas (now (nodes .entry)) (now (levels .entry)) (now (workers .exit)))) ≡ startLine n (start 3 s i row column (areas (now (nodes .entry)) (now (levels .entry)) (now (workers .entry)))) ⌝ }
+    ensures { λ r. ⌜ line (r .printed) (state (r .settings) (areas (now (nodes .entry)) (now (levels .entry)) (now (workers .exit)))) ≡ startLine n (start (s .width) s i row column (areas (now (nodes .entry)) (now (levels .entry)) (now (workers .entry)))) ⌝ }
 {
     let r = start(s, i, row, column, nodes, levels, workers);
     let s2 = r.settings;
@@ -111,7 +111,7 @@ fn turn_line(
     levels: &mut [u32],
     workers: &mut [u32],
 ) -> Said
-    ensures { λ r. ⌜ line (r .printed) (state (r .settings) (areas (now (nodes .exit)) (now (levels .exit)) (now (workers .exit)))) ≡ turnLine n i (headAt 3 (now (workers .entry)) i .pixel) (turn 3 s i (areas (now (nodes .entry)) (now (levels .entry)) (now (workers .entry)))) ⌝ }
+    ensures { λ r. ⌜ line (r .printed) (state (r .settings) (areas (now (nodes .exit)) (now (levels .exit)) (now (workers .exit)))) ≡ turnLine n i (headAt (now (workers .entry)) i .pixel) (turn (s .width) s i (areas (now (nodes .entry)) (now (levels .entry)) (now (workers .entry)))) ⌝ }
 {
     let h = Head::load(workers, i);
     let r = turn(s, i, nodes, levels, workers);
@@ -146,7 +146,7 @@ pub fn carry(
 
 // The first line with its sizes. The program lends memory for 128 nodes.
 fn open_sizes(s: Settings, nodes: &[u32], levels: &mut [u32], workers: &mut [u32]) -> Reply
-    ensures { λ r. ⌜ result r (areas (now (nodes .entry)) (now (levels .exit)) (now (workers .exit))) ≡ pick (leb (s .nodes) 128) (opening 3 s (areas (now (nodes .entry)) (now (levels .entry)) (now (workers .entry)))) (refused 1 s (areas (now (nodes .entry)) (now (levels .entry)) (now (workers .entry)))) ⌝ }
+    ensures { λ r. ⌜ result r (areas (now (nodes .entry)) (now (levels .exit)) (now (workers .exit))) ≡ pick (leb (s .nodes) 128) (opening (s .width) s (areas (now (nodes .entry)) (now (levels .entry)) (now (workers .entry)))) (refused 1 s (areas (now (nodes .entry)) (now (levels .entry)) (now (workers .entry)))) ⌝ }
 {
     if s.nodes <= 128 {
         open(s, nodes, levels, workers)
@@ -161,12 +161,12 @@ pub fn open_first(c: Command, nodes: &[u32], levels: &mut [u32], workers: &mut [
 {
     match c {
         Command::Sizes(count, limit, most) => open_sizes(
-            Settings::fresh(count, limit, most),
+            Settings::fresh(count, limit, most, Settings::WIDTH_3),
             nodes,
             levels,
             workers,
         ),
-        _ => refusal(10, Settings::fresh(0, 0, 0)),
+        _ => refusal(10, Settings::fresh(0, 0, 0, Settings::WIDTH_3)),
     }
 }
 
@@ -178,7 +178,7 @@ pub fn begin() -> Progress
         stage: Stage::Begin,
         line: 1,
         at: 0,
-        settings: Settings::fresh(0, 0, 0),
+        settings: Settings::fresh(0, 0, 0, Settings::WIDTH_3),
     }
 }
 

@@ -14,6 +14,14 @@ use Rattle.rules.specs.Asked.{goesBack}
 use Rattle.steps.specs.declared.Way.{Way}
 use Rattle.steps.specs.Cut.{walkCut, backCut}
 
+-- at the beginning all of them may be read
+module _ (w : ℕ) (levels : List ℕ) (g t : ℕ) {n k : ℕ} (e : n ≡ k) where
+  pub child-begins : childOf w levels n g t ≡ childOf w levels k g t
+  child-begins = rw e refl
+
+  pub meets-begins : (taken : ℕ) → backMeets w taken levels n g t ≡ backMeets w taken levels k g t
+  meets-begins taken = rw e refl
+
 -- the level whose previous is g, as x: n previous words may still be read from level a on
 module _ (w : ℕ) (levels : List ℕ) (g : ℕ) where
   pub child-here :

@@ -11,6 +11,7 @@ use mir.Val.{Fits}
 use Rattle.words.specs.Choice.{pick}
 use Rattle.words.proofs.Choice.{pick-both}
 use Rattle.settings.specs.declared.Settings.{Settings}
+use Rattle.settings.specs.Sizes.{mostLevels}
 use Rattle.areas.specs.Memory.{levelRef, depthAt, fillLevel}
 use Rattle.record.specs.declared.Kind.{Kind}
 use Rattle.record.specs.declared.Head.{Head}
@@ -54,9 +55,9 @@ module _ (s : Settings) (held : ℕ) where
 
 -- its number is in range, and it is filled
 module _ (taken held : ℕ) where
-  pub number-most : {g : ℕ} → g ≡ levelNo taken held → taken ≤ 28689 → held ≤ 28689 → g ≤ 28689
+  pub number-most : {g : ℕ} → g ≡ levelNo taken held → taken ≤ mostLevels → held ≤ mostLevels → g ≤ mostLevels
   unfolding levelNo
-  number-most a t n = rw a (pick-both (λ (g : ℕ). g ≤ 28689) (eqb held 0) (λ e. t) (λ e. omega arith))
+  number-most a t n = rw a (pick-both (λ (g : ℕ). g ≤ mostLevels) (eqb held 0) (λ e. t) (λ e. omega arith))
 
   module _ (w level : ℕ) (levels : List ℕ) where
     pub level-filled :
@@ -67,6 +68,6 @@ module _ (taken held : ℕ) where
     level-filled a b c = simp (a, b, c)
 
     -- so is the number + 1, by which it is held
-    pub taken-fits : {g : ℕ} {l : List ℕ} → levelCut g l ≡ takeLevelCut w taken held level levels → taken ≤ 28689 → held ≤ 28689 → Fits w32 (g + 1)
+    pub taken-fits : {g : ℕ} {l : List ℕ} → levelCut g l ≡ takeLevelCut w taken held level levels → taken ≤ mostLevels → held ≤ mostLevels → Fits w32 (g + 1)
     unfolding takeLevelCut
-    taken-fits {g} a t n = let b : g ≤ 28689 = number-most (ap (λ (c : LevelCut). c .level) a) t n in record { fits = omega arith }
+    taken-fits {g} a t n = let b : g ≤ mostLevels = number-most (ap (λ (c : LevelCut). c .level) a) t n in record { fits = omega arith }

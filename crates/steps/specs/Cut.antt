@@ -6,7 +6,7 @@ use mathlib.Core.List.{List, _∷_}
 use lib.Dec.{eqb}
 use Rattle.words.specs.Choice.{pick}
 use Rattle.settings.specs.declared.Settings.{Settings}
-use Rattle.words.specs.Digits.{depths}
+use Rattle.words.specs.Digits.{lastDepth}
 use Rattle.areas.specs.Memory.{isNode, named, depthAt, fillLevel}
 use Rattle.record.specs.declared.Move.{Move}
 use Rattle.record.specs.Layout.{newMove}
@@ -35,7 +35,7 @@ takeLevelCut w taken held level l = levelCut (levelNo taken held) (fillLevel w l
 -- Follow, SetFollow: whether going back from level t meets the worker's level, and the level to go on at
 unfoldable pub walkCut : ℕ → ℕ → ℕ → ℕ → List ℕ → Way
 walkCut w taken level t l =
-    record { meets = backMeets w taken l (depths w - 1) level t; child = childOf w l (depths w - 1) level t }
+    record { meets = backMeets w taken l (lastDepth w) level t; child = childOf w l (lastDepth w) level t }
 
 -- of the word met; of a node nothing is asked
 unfoldable pub backCut : ℕ → ℕ → ℕ → ℕ → List ℕ → Way

@@ -2,7 +2,8 @@
 // Relies on areas for cells, on record for the head, on rules for the definitions.
 ghost use mathlib.Core.Path.{_≡_};
 ghost use Prim.Native.Nat.{_+_, _-_, _≤_};
-ghost use Rattle.words.specs.Digits.{depths};
+ghost use Rattle.words.specs.Digits.{DigitWidth, lastDepth};
+ghost use Rattle.settings.specs.Sizes.{maxLimit, mostDepth, mostLevels};
 ghost use Rattle.settings.specs.Cut.{Sized};
 ghost use Rattle.areas.specs.Memory.{memory, levelRef, depthAt, exchanged, exchange};
 ghost use Rattle.rules.specs.Heads.{to, toLevel, toNode, holdingNode, holdingLevel, ended};
@@ -24,6 +25,7 @@ use areas::refers_to;
 use record::Head;
 use record::Kind;
 use settings::Settings;
+use settings::last_depth;
 use words::and;
 use words::le;
 use words::lt;
@@ -102,11 +104,12 @@ pub fn in_hand(held: u32, taken: u32) -> bool
 }
 
 pub fn picks_in(s: Settings, g: u32, levels: &[u32]) -> bool
-    ensures { λ r. ⌜ r ≡ picksIn 3 s g (now (levels .entry)) ⌝ }
+    requires { ⌜ DigitWidth (s .width) ⌝ }
+    ensures { λ r. ⌜ r ≡ picksIn (s .width) s g (now (levels .entry)) ⌝ }
 {
     and(
         level_taken(s, g),
-        le(depth_at(levels, g), Settings::DEEPEST),
+        le(depth_at(s.width, levels, g), last_depth(s.width)),
     )
 }
 
@@ -170,20 +173,21 @@ pub fn by_count(s: Settings, c: u32, below: Kind, full: Kind, past: Kind) -> Kin
 
 // The count at the next node. Past the limit it stays at limit + 1.
 pub fn more(s: Settings, c: u32) -> u32
-    requires { ⌜ s .limit ≤ 8 ⌝ }
+    requires { ⌜ s .limit ≤ maxLimit ⌝ }
     ensures { λ r. ⌜ r ≡ more s c ⌝ }
 {
     if c <= s.limit { c + 1 } else { s.limit + 1 }
 }
 
-// Going back by previous words from level t to the one whose previous is g; at most 7 words are read.
-fn child_of(levels: &[u32], g: u32, t: u32) -> u32
-    ensures { λ r. ⌜ r ≡ childOf 3 (now (levels .entry)) (depths 3 - 1) g t ⌝ }
+// Going back by previous words from level t to the one whose previous is g; at most as many words are read as the last depth says.
+fn child_of(w: u32, levels: &[u32], g: u32, t: u32) -> u32
+    requires { ⌜ DigitWidth w ⌝ }
+    ensures { λ r. ⌜ r ≡ childOf w (now (levels .entry)) (lastDepth w) g t ⌝ }
 {
     let mut at = t;
-    let mut n = Settings::DEPTHS - 1;
+    let mut n = last_depth(w);
     while n > 0 {
-        let p = previous_at(levels, at);
+        let p = previous_at(w, levels, at);
         if p == g {
             return at;
         }
@@ -194,13 +198,14 @@ fn child_of(levels: &[u32], g: u32, t: u32) -> u32
 }
 
 // Whether that level is met, each previous word on the way naming a taken level.
-fn back_meets(taken: u32, levels: &[u32], g: u32, t: u32) -> bool
-    ensures { λ r. ⌜ r ≡ backMeets 3 taken (now (levels .entry)) (depths 3 - 1) g t ⌝ }
+fn back_meets(w: u32, taken: u32, levels: &[u32], g: u32, t: u32) -> bool
+    requires { ⌜ DigitWidth w ⌝ }
+    ensures { λ r. ⌜ r ≡ backMeets w taken (now (levels .entry)) (lastDepth w) g t ⌝ }
 {
     let mut at = t;
-    let mut n = Settings::DEPTHS - 1;
+    let mut n = last_depth(w);
     while n > 0 {
-        let p = previous_at(levels, at);
+        let p = previous_at(w, levels, at);
         if p == g {
             return true;
         }
@@ -215,18 +220,20 @@ fn back_meets(taken: u32, levels: &[u32], g: u32, t: u32) -> bool
 }
 
 // Both, from level t.
-fn walk(taken: u32, level: u32, t: u32, levels: &[u32]) -> Way
-    ensures { λ r. ⌜ r ≡ walkCut 3 taken level t (now (levels .entry)) ⌝ }
+fn walk(w: u32, taken: u32, level: u32, t: u32, levels: &[u32]) -> Way
+    requires { ⌜ DigitWidth w ⌝ }
+    ensures { λ r. ⌜ r ≡ walkCut w taken level t (now (levels .entry)) ⌝ }
 {
     Way {
-        meets: back_meets(taken, levels, level, t),
-        child: child_of(levels, level, t),
+        meets: back_meets(w, taken, levels, level, t),
+        child: child_of(w, levels, level, t),
     }
 }
 
 // Both, from the word that Follow or SetFollow met. From a node there is no way back to ask.
-pub fn way_back(taken: u32, level: u32, word: u32, levels: &[u32]) -> Way
-    ensures { λ r. ⌜ r ≡ backCut 3 taken level word (now (levels .entry)) ⌝ }
+pub fn way_back(w: u32, taken: u32, level: u32, word: u32, levels: &[u32]) -> Way
+    requires { ⌜ DigitWidth w ⌝ }
+    ensures { λ r. ⌜ r ≡ backCut w taken level word (now (levels .entry)) ⌝ }
 {
     if is_node(word) {
         Way {
@@ -234,7 +241,7 @@ pub fn way_back(taken: u32, level: u32, word: u32, levels: &[u32]) -> Way
             child: 0,
         }
     } else {
-        walk(taken, level, named(word), levels)
+        walk(w, taken, level, named(word), levels)
     }
 }
 
@@ -244,12 +251,12 @@ pub fn stands_at(s: Settings, h: Head) -> bool
     and(level_taken(s, h.level), node_taken(s, h.node))
 }
 
-// A new level's depth is at most 7, and a level is held or left.
+// A new level's depth is at most the last one, and a level is held or left.
 fn level_left(s: Settings, h: Head, levels: &[u32]) -> bool
     requires { ⌜ Sized s ⌝ }
-    ensures { λ r. ⌜ r ≡ levelLeft 3 s h (now (levels .entry)) ⌝ }
+    ensures { λ r. ⌜ r ≡ levelLeft (s .width) s h (now (levels .entry)) ⌝ }
 {
-    let deep = le(depth_at(levels, h.level), 6);
+    let deep = lt(depth_at(s.width, levels, h.level), last_depth(s.width));
     if h.held_level == 0 {
         and(deep, lt(s.levels_taken, s.level_count()))
     } else {
@@ -259,7 +266,7 @@ fn level_left(s: Settings, h: Head, levels: &[u32]) -> bool
 
 pub fn takes_level(s: Settings, h: Head, levels: &[u32]) -> bool
     requires { ⌜ Sized s ⌝ }
-    ensures { λ r. ⌜ r ≡ takesLevel 3 s h (now (levels .entry)) ⌝ }
+    ensures { λ r. ⌜ r ≡ takesLevel (s .width) s h (now (levels .entry)) ⌝ }
 {
     and(
         level_taken(s, h.level),
@@ -275,11 +282,12 @@ pub fn stands_with(s: Settings, h: Head, held: u32, taken: u32) -> bool
 }
 
 // Cell x is exchanged from level g to b. The word that it held.
-pub fn exchange_from(g: u32, x: Cell, b: u32, nodes: &mut [u32], levels: &mut [u32]) -> u32
-    requires { ⌜ g ≤ 28689 ⌝ }
-    ensures { λ r. ⌜ exchanged r (memory (now (nodes .exit)) (now (levels .exit))) ≡ exchange 3 (memory (now (nodes .entry)) (now (levels .entry))) x (levelRef g) b ⌝ }
+pub fn exchange_from(w: u32, g: u32, x: Cell, b: u32, nodes: &mut [u32], levels: &mut [u32]) -> u32
+    requires { ⌜ DigitWidth w ⌝ }
+    requires { ⌜ g ≤ mostLevels ⌝ }
+    ensures { λ r. ⌜ exchanged r (memory (now (nodes .exit)) (now (levels .exit))) ≡ exchange w (memory (now (nodes .entry)) (now (levels .entry))) x (levelRef g) b ⌝ }
 {
-    exchange(x, level_ref(g), b, nodes, levels)
+    exchange(w, x, level_ref(g), b, nodes, levels)
 }
 
 // The level that Level and SetLevel take: the spare one, else the next number.
@@ -298,14 +306,15 @@ pub fn counted(s: Settings, held: u32) -> Settings
 }
 
 // A level is taken: the one of that number is filled, one deeper than `level`.
-pub fn take_level(taken: u32, held: u32, level: u32, levels: &mut [u32]) -> u32
-    requires { ⌜ taken ≤ 28689 ⌝ }
-    requires { ⌜ held ≤ 28689 ⌝ }
-    requires { ⌜ depthAt 3 (now levels) level ≤ 6 ⌝ }
-    ensures { λ g. ⌜ levelCut g (now (levels .exit)) ≡ takeLevelCut 3 taken held level (now (levels .entry)) ⌝ }
+pub fn take_level(w: u32, taken: u32, held: u32, level: u32, levels: &mut [u32]) -> u32
+    requires { ⌜ DigitWidth w ⌝ }
+    requires { ⌜ taken ≤ mostLevels ⌝ }
+    requires { ⌜ held ≤ mostLevels ⌝ }
+    requires { ⌜ depthAt w (now levels) level ≤ mostDepth ⌝ }
+    ensures { λ g. ⌜ levelCut g (now (levels .exit)) ≡ takeLevelCut w taken held level (now (levels .entry)) ⌝ }
 {
     let g = level_number(taken, held);
-    let d = depth_at(levels, level) + 1;
-    fill_level(levels, g, level, d);
+    let d = depth_at(w, levels, level) + 1;
+    fill_level(w, levels, g, level, d);
     g
 }

@@ -38,23 +38,23 @@ module _ (w : ℕ) (s : Settings) (i : ℕ) (n g k : List ℕ) where
   -- the first no of a last answer's questions
   pub last-number :
       let f = firstFour w s i (length n) (length g) (length k) in
-      firstNo (lastQuestions w s i (areas n g k)) ≡ pick (eqb f 0) (pick (fits w s (load w k i)) 0 6) f
+      firstNo (lastQuestions w s i (areas n g k)) ≡ pick (eqb f 0) (pick (fits w s (load k i)) 0 6) f
   unfolding lastQuestions firstFour firstThree question6Record firstNo
   last-number =
       after-four (question1 s) (question2 w s (length n) (length g) (length k)) (question3 w s) (question4 s i)
-      (asks 6 (fits w s (load w k i)) ∷ [])
+      (asks 6 (fits w s (load k i)) ∷ [])
 
   -- the ways through a last answer's questions
   pub last-fits :
       {f : ℕ}
-      → fits w s (load w k i) ≡ true → f ≡ firstFour w s i (length n) (length g) (length k) → f ≡ 0
+      → fits w s (load k i) ≡ true → f ≡ firstFour w s i (length n) (length g) (length k) → f ≡ 0
       → 0 ≡ firstNo (lastQuestions w s i (areas n g k))
   unfolding pick
   last-fits t b e = simp (last-number, ← b, e, t)
 
   pub last-unfit :
       {f : ℕ}
-      → fits w s (load w k i) ≡ false → f ≡ firstFour w s i (length n) (length g) (length k) → f ≡ 0
+      → fits w s (load k i) ≡ false → f ≡ firstFour w s i (length n) (length g) (length k) → f ≡ 0
       → 6 ≡ firstNo (lastQuestions w s i (areas n g k))
   unfolding pick
   last-unfit t b e = simp (last-number, ← b, e, t)
@@ -67,7 +67,7 @@ module _ (w : ℕ) (s : Settings) (i : ℕ) (n g k : List ℕ) where
   -- the ways through a last answer
   pub last-done :
       {r : Reply} {a : Answer} {h : Head} {q : ℕ}
-      → r ≡ reply 0 a 0 s → a ≡ lastOf h → h ≡ headAt w k i → q ≡ firstNo (lastQuestions w s i (areas n g k)) → q ≡ 0
+      → r ≡ reply 0 a 0 s → a ≡ lastOf h → h ≡ headAt k i → q ≡ firstNo (lastQuestions w s i (areas n g k)) → q ≡ 0
       → result r (areas n g k) ≡ lastAnswer w s i (areas n g k)
   unfolding lastAnswer unlessRefused load pick
   last-done a b c d e = simp (← d, e, a, b, c)

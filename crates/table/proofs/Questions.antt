@@ -7,7 +7,9 @@ use Prim.Native.Nat.{ℕ, _≤_}
 use lib.Dec.{eqb, ltb}
 use borrow.Author.Tests.{ne-eqb, eqb-true, eqb-false}
 use Rattle.words.specs.Choice.{pick, Question, asks, firstNo}
+use Rattle.words.specs.Digits.{DigitWidth}
 use Rattle.settings.specs.declared.Settings.{Settings}
+use Rattle.settings.specs.Sizes.{maxLimit}
 use Rattle.settings.specs.Cut.{firstThree}
 use Rattle.settings.proofs.Laws.{ranges, three-yes}
 use Rattle.rules.specs.Asked.{question4}
@@ -36,8 +38,14 @@ module _ (w : ℕ) (s : Settings) (i n g k : ℕ) where
   unfolding firstFour pick
   four-asked a e = simp (← a, ne-eqb _ _ e)
 
-  -- a yes to all four: the chain limit is in range
-  pub four-limit : {q : ℕ} → q ≡ firstFour w s i n g k → q ≡ 0 → s .limit ≤ 8
+  -- a yes to all four: the width is one of the four, the chain limit is in range
+  pub four-wide : {q : ℕ} → q ≡ firstFour w s i n g k → q ≡ 0 → DigitWidth (s .width)
+  unfolding firstFour
+  four-wide a e =
+      let z = both-zero (firstThree w s n g k) _ (sym a ∙ e) in
+      ranges s (three-yes w s n g k (z .0) .0) .width
+
+  pub four-limit : {q : ℕ} → q ≡ firstFour w s i n g k → q ≡ 0 → s .limit ≤ maxLimit
   unfolding firstFour
   four-limit a e =
       let z = both-zero (firstThree w s n g k) _ (sym a ∙ e) in

@@ -48,33 +48,33 @@ module _ (row column : ℕ) where
 -- questions 6 and 7 of a record
 pub record-way :
     (w : ℕ) (s : Settings) (k : List ℕ) (i : ℕ) {q : ℕ} {x y : Bool} {h : Head}
-    → q ≡ pick x (pick y 0 7) 6 → y ≡ eqb (kindNo (h .kind)) 0 → x ≡ fits w s (load w k i) → h ≡ headAt w k i
-    → q ≡ sixSeven w s (load w k i)
+    → q ≡ pick x (pick y 0 7) 6 → y ≡ eqb (kindNo (h .kind)) 0 → x ≡ fits w s (load k i) → h ≡ headAt k i
+    → q ≡ sixSeven w s (load k i)
 unfolding sixSeven question7 load
 record-way w s k i a b c d = simp (a, b, c, d)
 
 -- the record that a start writes
 pub begin-way :
-    (w i row column : ℕ) (k : List ℕ) {k′ : List ℕ} {h h′ : Head} {p : ℕ}
-    → k′ ≡ storeHead w h′ 0 i k → h′ ≡ started p h → p ≡ pixelNumber row column → h ≡ headAt w k i → k′ ≡ begun w i row column k
+    (i row column : ℕ) (k : List ℕ) {k′ : List ℕ} {h h′ : Head} {p : ℕ}
+    → k′ ≡ storeHead h′ 0 i k → h′ ≡ started p h → p ≡ pixelNumber row column → h ≡ headAt k i → k′ ≡ begun i row column k
 unfolding begun
-begin-way w i row column k a b c d = simp (a, b, c, d)
+begin-way i row column k a b c d = simp (a, b, c, d)
 
 module _ (w : ℕ) (s : Settings) (i row column : ℕ) (n g k : List ℕ) where
   -- the first no of a start's questions
   pub start-number :
       let f = firstFour w s i (length n) (length g) (length k) in
       firstNo (startQuestions w s i row column (areas n g k))
-      ≡ pick (eqb f 0) (pick (question5 row column) (sixSeven w s (load w k i)) 5) f
+      ≡ pick (eqb f 0) (pick (question5 row column) (sixSeven w s (load k i)) 5) f
   unfolding startQuestions firstFour firstThree sixSeven question6Record firstNo
   start-number =
       after-four (question1 s) (question2 w s (length n) (length g) (length k)) (question3 w s) (question4 s i)
-      (asks 5 (question5 row column) ∷ asks 6 (fits w s (load w k i)) ∷ asks 7 (question7 (load w k i)) ∷ [])
+      (asks 5 (question5 row column) ∷ asks 6 (fits w s (load k i)) ∷ asks 7 (question7 (load k i)) ∷ [])
 
   -- the ways through a start's questions
   pub start-record :
       {x f : ℕ}
-      → x ≡ sixSeven w s (load w k i) → question5 row column ≡ true → f ≡ firstFour w s i (length n) (length g) (length k) → f ≡ 0
+      → x ≡ sixSeven w s (load k i) → question5 row column ≡ true → f ≡ firstFour w s i (length n) (length g) (length k) → f ≡ 0
       → x ≡ firstNo (startQuestions w s i row column (areas n g k))
   unfolding pick
   start-record a t b e = simp (start-number, ← b, e, t, a)
@@ -95,9 +95,9 @@ module _ (w : ℕ) (s : Settings) (i row column : ℕ) (n g k : List ℕ) where
   -- a yes to all: row and column are in range
   start-yes : {q : ℕ} → q ≡ firstNo (startQuestions w s i row column (areas n g k)) → q ≡ 0 → question5 row column ≡ true
   start-yes a e =
-      let x = pick (question5 row column) (sixSeven w s (load w k i)) 5 in
+      let x = pick (question5 row column) (sixSeven w s (load k i)) 5 in
       let z = both-zero (firstFour w s i (length n) (length g) (length k)) x (sym start-number ∙ sym a ∙ e) in
-      pick-zero (question5 row column) (sixSeven w s (load w k i)) 4 (z .1)
+      pick-zero (question5 row column) (sixSeven w s (load k i)) 4 (z .1)
 
   pub start-row : {q : ℕ} → q ≡ firstNo (startQuestions w s i row column (areas n g k)) → q ≡ 0 → row ≤ 4095
   start-row a e = frame-row row column (start-yes a e)
@@ -108,7 +108,7 @@ module _ (w : ℕ) (s : Settings) (i row column : ℕ) (n g k : List ℕ) where
   -- the ways through a start
   pub start-done :
       {r : Reply} {k′ : List ℕ} {q : ℕ}
-      → r ≡ reply 0 Open 0 s → k′ ≡ begun w i row column k → q ≡ firstNo (startQuestions w s i row column (areas n g k)) → q ≡ 0
+      → r ≡ reply 0 Open 0 s → k′ ≡ begun i row column k → q ≡ firstNo (startQuestions w s i row column (areas n g k)) → q ≡ 0
       → result r (areas n g k′) ≡ start w s i row column (areas n g k)
   unfolding start unlessRefused startedAreas begun store storeMoves load pick
   start-done a b c e = simp (← c, e, a, b)

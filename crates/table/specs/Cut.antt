@@ -25,5 +25,5 @@ unfoldable pub sixSeven : ℕ → Settings → Record → ℕ
 sixSeven w s r = pick (fits w s r) (pick (question7 r) 0 7) 6
 
 -- the workers' words with the record of a call that starts
-unfoldable pub begun : ℕ → ℕ → ℕ → ℕ → List ℕ → List ℕ
-begun w i row column k = storeHead w (started (pixelNumber row column) (headAt w k i)) 0 i k
+unfoldable pub begun : ℕ → ℕ → ℕ → List ℕ → List ℕ
+begun i row column k = storeHead (started (pixelNumber row column) (headAt k i)) 0 i k

@@ -5,7 +5,8 @@ ghost use Prim.Native.Nat.{_+_, _*_, _≤_};
 ghost use lib.Dec.{eqb};
 ghost use lib.ListN.{length};
 ghost use Rattle.words.specs.Choice.{pick, firstNo};
-ghost use Rattle.words.specs.Digits.{pixelNumber};
+ghost use Rattle.words.specs.Digits.{DigitWidth, pixelNumber};
+ghost use Rattle.settings.specs.Sizes.{maxLimit, workerWords};
 ghost use Rattle.areas.specs.Memory.{areas};
 ghost use Rattle.record.specs.Kinds.{kindNo};
 ghost use Rattle.record.specs.Layout.{load};
@@ -46,20 +47,20 @@ pub fn refusal(number: u32, s: Settings) -> Reply
 
 // Word j of worker i. Word 0 of the worker past the last one is the end of the workers' words.
 fn word_place(i: u32, j: u32) -> usize
-    ensures { λ r. ⌜ r ≡ 128 * i + j ⌝ }
+    ensures { λ r. ⌜ r ≡ workerWords * i + j ⌝ }
 {
     (Settings::WORKER_WORDS as usize) * (i as usize) + (j as usize)
 }
 
 // Opening: writes level 0 and zeroes the workers' words.
 pub fn open(s: Settings, nodes: &[u32], levels: &mut [u32], workers: &mut [u32]) -> Reply
-    ensures { λ r. ⌜ result r (areas (now (nodes .entry)) (now (levels .exit)) (now (workers .exit))) ≡ opening 3 s (areas (now (nodes .entry)) (now (levels .entry)) (now (workers .entry))) ⌝ }
+    ensures { λ r. ⌜ result r (areas (now (nodes .entry)) (now (levels .exit)) (now (workers .exit))) ≡ opening (s .width) s (areas (now (nodes .entry)) (now (levels .entry)) (now (workers .entry))) ⌝ }
 {
     let q = s.refused_opening(nodes.len(), levels.len(), workers.len());
     if q == 0 {
-        fill_level(levels, 0, 4294967295, 0);
+        fill_level(s.width, levels, 0, 4294967295, 0);
         fill_words(workers, 0, word_place(s.workers, 0), 0);
-        refusal(0, Settings::fresh(s.workers, s.limit, s.nodes))
+        refusal(0, Settings::fresh(s.workers, s.limit, s.nodes, s.width))
     } else {
         refusal(q, s)
     }
@@ -106,7 +107,7 @@ fn pixel_number(row: u32, column: u32) -> u32
 
 // Questions 1 to 4, which start, turn and last answer ask of a worker.
 pub fn refused_worker(s: Settings, i: u32, nodes: &[u32], levels: &[u32], workers: &[u32]) -> u32
-    ensures { λ r. ⌜ r ≡ firstFour 3 s i (length (now (nodes .entry))) (length (now (levels .entry))) (length (now (workers .entry))) ⌝ }
+    ensures { λ r. ⌜ r ≡ firstFour (s .width) s i (length (now (nodes .entry))) (length (now (levels .entry))) (length (now (workers .entry))) ⌝ }
 {
     let q = s.refused(nodes.len(), levels.len(), workers.len());
     if q == 0 {
@@ -125,8 +126,9 @@ fn six_or_seven(fit: bool, idle: bool) -> u32
 
 // Questions 6 and 7, which a start asks of the record of worker i.
 fn refused_record(s: Settings, i: u32, workers: &[u32]) -> u32
-    requires { ⌜ s .limit ≤ 8 ⌝ }
-    ensures { λ r. ⌜ r ≡ sixSeven 3 s (load 3 (now (workers .entry)) i) ⌝ }
+    requires { ⌜ DigitWidth (s .width) ⌝ }
+    requires { ⌜ s .limit ≤ maxLimit ⌝ }
+    ensures { λ r. ⌜ r ≡ sixSeven (s .width) s (load (now (workers .entry)) i) ⌝ }
 {
     let h = Head::load(workers, i);
     six_or_seven(fits(s, h, workers, i), is_idle(h))
@@ -142,7 +144,7 @@ fn refused_start(
     levels: &[u32],
     workers: &[u32],
 ) -> u32
-    ensures { λ r. ⌜ r ≡ firstNo (startQuestions 3 s i row column (areas (now (nodes .entry)) (now (levels .entry)) (now (workers .entry)))) ⌝ }
+    ensures { λ r. ⌜ r ≡ firstNo (startQuestions (s .width) s i row column (areas (now (nodes .entry)) (now (levels .entry)) (now (workers .entry)))) ⌝ }
 {
     let four = refused_worker(s, i, nodes, levels, workers);
     let frame = in_frame(row, column);
@@ -161,7 +163,7 @@ fn refused_start(
 fn begin_call(i: u32, row: u32, column: u32, workers: &mut [u32])
     requires { ⌜ row ≤ 4095 ⌝ }
     requires { ⌜ column ≤ 4095 ⌝ }
-    ensures { λ r. ⌜ now (workers .exit) ≡ begun 3 i row column (now (workers .entry)) ⌝ }
+    ensures { λ r. ⌜ now (workers .exit) ≡ begun i row column (now (workers .entry)) ⌝ }
 {
     let h = Head::load(workers, i);
     started(pixel_number(row, column), h).store(0, workers, i);
@@ -177,7 +179,7 @@ pub fn start(
     levels: &[u32],
     workers: &mut [u32],
 ) -> Reply
-    ensures { λ r. ⌜ result r (areas (now (nodes .entry)) (now (levels .entry)) (now (workers .exit))) ≡ start 3 s i row column (areas (now (nodes .entry)) (now (levels .entry)) (now (workers .entry))) ⌝ }
+    ensures { λ r. ⌜ result r (areas (now (nodes .entry)) (now (levels .entry)) (now (workers .exit))) ≡ start (s .width) s i row column (areas (now (nodes .entry)) (now (levels .entry)) (now (workers .entry))) ⌝ }
 {
     let q = refused_start(s, i, row, column, nodes, levels, workers);
     if q == 0 {
@@ -198,7 +200,7 @@ pub fn answer_in(h: Head) -> Answer
 
 // Questions 1 to 4 and 6, which a last answer asks.
 fn refused_last(s: Settings, i: u32, nodes: &[u32], levels: &[u32], workers: &[u32]) -> u32
-    ensures { λ r. ⌜ r ≡ firstNo (lastQuestions 3 s i (areas (now (nodes .entry)) (now (levels .entry)) (now (workers .entry)))) ⌝ }
+    ensures { λ r. ⌜ r ≡ firstNo (lastQuestions (s .width) s i (areas (now (nodes .entry)) (now (levels .entry)) (now (workers .entry)))) ⌝ }
 {
     let q = refused_worker(s, i, nodes, levels, workers);
     if q == 0 {
@@ -211,7 +213,7 @@ fn refused_last(s: Settings, i: u32, nodes: &[u32], levels: &[u32], workers: &[u
 
 // The last answer of worker i.
 pub fn last_answer(s: Settings, i: u32, nodes: &[u32], levels: &[u32], workers: &[u32]) -> Reply
-    ensures { λ r. ⌜ result r (areas (now (nodes .entry)) (now (levels .entry)) (now (workers .entry))) ≡ lastAnswer 3 s i (areas (now (nodes .entry)) (now (levels .entry)) (now (workers .entry))) ⌝ }
+    ensures { λ r. ⌜ result r (areas (now (nodes .entry)) (now (levels .entry)) (now (workers .entry))) ≡ lastAnswer (s .width) s i (areas (now (nodes .entry)) (now (levels .entry)) (now (workers .entry))) ⌝ }
 {
     let q = refused_last(s, i, nodes, levels, workers);
     if q == 0 {

@@ -34,14 +34,14 @@ use Rattle.turns.specs.Cut.{triedOf, finished, turnDone, did, didOf, cam
 use Rattle.turns.proofs.Exchanged.{tried-came}
 
 -- a head and no Move
-pub keep-none : (w : ℕ) (h : Head) (i c : ℕ) (l : List ℕ) {l′ : List ℕ} → l′ ≡ storeHead w h 0 i l → c ≡ 0 → l′ ≡ store w (record′ h (begun (h .level) c [])) i l
+pub keep-none : (h : Head) (i c : ℕ) (l : List ℕ) {l′ : List ℕ} → l′ ≡ storeHead h 0 i l → c ≡ 0 → l′ ≡ store (record′ h (begun (h .level) c [])) i l
 unfolding begun
-keep-none w h i c l e z = e ∙ sym (ap (λ ms. store w (record′ h ms) i l) (pick-true _ _ _ (eq-eqb c 0 z)) ∙ store-none w h i l)
+keep-none h i c l e z = e ∙ sym (ap (λ ms. store (record′ h ms) i l) (pick-true _ _ _ (eq-eqb c 0 z)) ∙ store-none h i l)
 
 -- a head and the Move that has begun
-pub keep-begun : (w : ℕ) (h : Head) (i c : ℕ) (l : List ℕ) {l′ l″ : List ℕ} {v : Move} → l″ ≡ moveTo v (movePlace w i 0) l′ → v ≡ newMove (h .level) (c - 1) → l′ ≡ storeHead w h 1 i l → (c ≡ 0 → ⊥) → l″ ≡ store w (record′ h (begun (h .level) c [])) i l
+pub keep-begun : (h : Head) (i c : ℕ) (l : List ℕ) {l′ l″ : List ℕ} {v : Move} → l″ ≡ moveTo v (movePlace i 0) l′ → v ≡ newMove (h .level) (c - 1) → l′ ≡ storeHead h 1 i l → (c ≡ 0 → ⊥) → l″ ≡ store (record′ h (begun (h .level) c [])) i l
 unfolding begun store storeMoves
-keep-begun w h i c l a b e z = rw (pick-false _ [] (newMove (h .level) (c - 1) ∷ []) (ne-eqb c 0 z), a, b, e) refl
+keep-begun h i c l a b e z = rw (pick-false _ [] (newMove (h .level) (c - 1) ∷ []) (ne-eqb c 0 z), a, b, e) refl
 
 -- refused by 6: no exchange
 pub did-six : (s : Settings) (e : Exchange) (a : Areas) → didOf e (refused 6 s a) ≡ did (turnDone 6 s None) a
@@ -52,7 +52,7 @@ module _ (w : ℕ) (i : ℕ) (s : Settings) (nodes levels workers : List ℕ) (x
   -- refused by 6: nothing has changed
   pub finish-six :
       (t : Step) {n : ℕ} {d : Done} → d ≡ turnDone 6 s None → tried n t ≡ x → n ≡ 6 → (x .number ≡ 6 → x .step′ .memory ≡ memory nodes levels)
-      → did d (areas (t .memory .nodes) (t .memory .levels) workers) ≡ didOf e (finished w x i s (areas nodes levels workers))
+      → did d (areas (t .memory .nodes) (t .memory .levels) workers) ≡ didOf e (finished x i s (areas nodes levels workers))
   unfolding finished
   finish-six t a f z k =
       let q : x .number ≡ 6 = sym (ap (λ u. u .number) f) ∙ z in
@@ -61,8 +61,8 @@ module _ (w : ℕ) (i : ℕ) (s : Settings) (nodes levels workers : List ℕ) (x
 
   -- any other number: the record is stored
   pub finish-done :
-      (t : Step) {n : ℕ} {d : Done} {y : Exchange} {l : List ℕ} → d ≡ turnDone n (t .settings) y → y ≡ pick (eqb (x .number) 0) e None → l ≡ store w (t .record′) i workers → tried n t ≡ x → (n ≡ 6 → ⊥)
-      → did d (areas (t .memory .nodes) (t .memory .levels) l) ≡ didOf e (finished w x i s (areas nodes levels workers))
+      (t : Step) {n : ℕ} {d : Done} {y : Exchange} {l : List ℕ} → d ≡ turnDone n (t .settings) y → y ≡ pick (eqb (x .number) 0) e None → l ≡ store (t .record′) i workers → tried n t ≡ x → (n ≡ 6 → ⊥)
+      → did d (areas (t .memory .nodes) (t .memory .levels) l) ≡ didOf e (finished x i s (areas nodes levels workers))
   unfolding finished didOf
   finish-done t {n} a b f q z = rw (← q, pick-false _ (refused 6 s (areas nodes levels workers)) _ (ne-eqb n 6 z), a, b, f) (rw (← q) refl)
 
@@ -87,7 +87,7 @@ module _ (w : ℕ) (i : ℕ) (s : Settings) (h : Head) (nodes levels workers : L
 
   pub search-refused :
       (t : Turned) {d : Done} {n g : List ℕ} → d ≡ turnDone 6 s None → turned t (memory n g) ≡ searchTried (h .kind) w s h (memory nodes levels) → t .number ≡ 6 → 1 ≤ kindNo (h .kind) → kindNo (h .kind) ≤ 10
-      → did d (areas n g workers) ≡ didOf (exchangeOf w (record′ h []) (memory nodes levels)) (finished w (triedOf w s (record′ h []) (memory nodes levels)) i s (areas nodes levels workers))
+      → did d (areas n g workers) ≡ didOf (exchangeOf w (record′ h []) (memory nodes levels)) (finished (triedOf w s (record′ h []) (memory nodes levels)) i s (areas nodes levels workers))
   search-refused t {d} {n} {g} a e z low high =
       finish-six w i s nodes levels workers (triedOf w s (record′ h []) (memory nodes levels)) _ (turned t (memory n g) .step′) a (search-is t (memory n g) e low high) z (tried-memory w s (record′ h []) (memory nodes levels))
 
@@ -101,8 +101,8 @@ module _ (w : ℕ) (i : ℕ) (s : Settings) (h : Head) (nodes levels workers : L
       ap (λ (x : Head). cameTo (kindNo (h .kind)) x 0 0) p ∙ tried-came w s h [] (memory nodes levels) 0 (λ low. absurd (omega arith)) (λ low. absurd (omega arith)) (λ y. z (q ∙ y))
 
   pub search-done :
-      (t : Turned) {d : Done} {y : Exchange} {n g l : List ℕ} → d ≡ turnDone (t .number) (t .settings) y → y ≡ cameTo (kindNo (h .kind)) (t .worker .head) 0 0 → l ≡ store w (record′ (t .worker .head) (begun (t .worker .head .level) (t .child) [])) i workers → turned t (memory n g) ≡ searchTried (h .kind) w s h (memory nodes levels) → (t .number ≡ 6 → ⊥) → 1 ≤ kindNo (h .kind) → kindNo (h .kind) ≤ 10
-      → did d (areas n g l) ≡ didOf (exchangeOf w (record′ h []) (memory nodes levels)) (finished w (triedOf w s (record′ h []) (memory nodes levels)) i s (areas nodes levels workers))
+      (t : Turned) {d : Done} {y : Exchange} {n g l : List ℕ} → d ≡ turnDone (t .number) (t .settings) y → y ≡ cameTo (kindNo (h .kind)) (t .worker .head) 0 0 → l ≡ store (record′ (t .worker .head) (begun (t .worker .head .level) (t .child) [])) i workers → turned t (memory n g) ≡ searchTried (h .kind) w s h (memory nodes levels) → (t .number ≡ 6 → ⊥) → 1 ≤ kindNo (h .kind) → kindNo (h .kind) ≤ 10
+      → did d (areas n g l) ≡ didOf (exchangeOf w (record′ h []) (memory nodes levels)) (finished (triedOf w s (record′ h []) (memory nodes levels)) i s (areas nodes levels workers))
   search-done t {d} {y} {n} {g} {l} a b f e z low high =
       let q : turned t (memory n g) ≡ triedOf w s (record′ h []) (memory nodes levels) = search-is t (memory n g) e low high in
       finish-done w i s nodes levels workers (triedOf w s (record′ h []) (memory nodes levels)) _ (turned t (memory n g) .step′) a (b ∙ search-came t q z high) f q z

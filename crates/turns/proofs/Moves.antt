@@ -10,7 +10,7 @@ use lib.ListN.{length}
 use borrow.Author.Tests.{ne-eqb, eqb-true, le-leb, lt-leb, leb-true}
 use Rattle.words.specs.Choice.{pick, both, every}
 use Rattle.words.proofs.Choice.{pick-both, pick-true, pick-false, both-left, both-right, both-true, true-false}
-use Rattle.settings.specs.Sizes.{maxMoves, within}
+use Rattle.settings.specs.Sizes.{maxLimit, maxMoves, within}
 use Rattle.settings.specs.Cut.{Sized}
 use Rattle.settings.specs.declared.Settings.{Settings}
 use Rattle.settings.proofs.Laws.{within-true}
@@ -47,69 +47,69 @@ pick-yes true x e = (refl, e)
 pick-yes false x e = let z : false ≡ true = e in (e, cc)
 
 -- a record that fits with a kind from 11 on
-module _ (w : ℕ) (s : Settings) (l : List ℕ) (i : ℕ) (f : fits w s (load w l i) ≡ true) (low : 11 ≤ kindNo (headAt w l i .kind)) where
-  fits-moving : (kindNo (headAt w l i .kind) ≤ 22) × (movingFits w s (kindNo (headAt w l i .kind)) (firstMoves w l i (movesAt w l i)) ≡ true)
+module _ (w : ℕ) (s : Settings) (l : List ℕ) (i : ℕ) (f : fits w s (load l i) ≡ true) (low : 11 ≤ kindNo (headAt l i .kind)) where
+  fits-moving : (kindNo (headAt l i .kind) ≤ 22) × (movingFits w s (kindNo (headAt l i .kind)) (firstMoves l i (movesAt l i)) ≡ true)
   unfolding load fits fitsBy
   fits-moving =
-      let e : pick (leb (kindNo (headAt w l i .kind)) 22) (both (callFits s (kindNo (headAt w l i .kind)) (headAt w l i)) (movingFits w s (kindNo (headAt w l i .kind)) (firstMoves w l i (movesAt w l i)))) false ≡ true =
-      sym (pick-false _ _ _ (ne-eqb (kindNo (headAt w l i .kind)) 0 (λ z. omega arith)) ∙ pick-false _ _ _ (lt-leb (kindNo (headAt w l i .kind)) 10 (omega arith))) ∙ f
+      let e : pick (leb (kindNo (headAt l i .kind)) 22) (both (callFits s (kindNo (headAt l i .kind)) (headAt l i)) (movingFits w s (kindNo (headAt l i .kind)) (firstMoves l i (movesAt l i)))) false ≡ true =
+      sym (pick-false _ _ _ (ne-eqb (kindNo (headAt l i .kind)) 0 (λ z. omega arith)) ∙ pick-false _ _ _ (lt-leb (kindNo (headAt l i .kind)) 10 (omega arith))) ∙ f
       in
       let y = pick-yes _ _ e in
       (leb-true _ _ (y .0), both-right _ _ (y .1))
 
-  kind-most : kindNo (headAt w l i .kind) ≤ 22
+  kind-most : kindNo (headAt l i .kind) ≤ 22
   kind-most = fits-moving .0
 
-  fits-list : (leb (length (firstMoves w l i (movesAt w l i))) (maxMoves w) ≡ true) × (movesFit s (kindNo (headAt w l i .kind)) (firstMoves w l i (movesAt w l i)) ≡ true)
+  fits-list : (leb (length (firstMoves l i (movesAt l i))) (maxMoves w) ≡ true) × (movesFit s (kindNo (headAt l i .kind)) (firstMoves l i (movesAt l i)) ≡ true)
   unfolding movingFits
   fits-list = pick-yes _ _ (fits-moving .1)
 
-  first-fits : (n : ℕ) → movesFit s (kindNo (headAt w l i .kind)) (firstMoves w l i n) ≡ true → (1 ≤ n) × (innerFits s (kindNo (headAt w l i .kind)) (moveAt w l i (n - 1) .count) ≡ true)
+  first-fits : (n : ℕ) → movesFit s (kindNo (headAt l i .kind)) (firstMoves l i n) ≡ true → (1 ≤ n) × (innerFits s (kindNo (headAt l i .kind)) (moveAt l i (n - 1) .count) ≡ true)
   unfolding firstMoves movesFit
   first-fits zero e = absurd (true-false (sym e))
   first-fits (suc n) e =
       let z : suc n - 1 ≡ n = omega arith in
       (omega arith, rw z (both-left _ _ e))
 
-  second-fits : (n : ℕ) → 2 ≤ n → movesFit s (kindNo (headAt w l i .kind)) (firstMoves w l i n) ≡ true → within (moveAt w l i (n - 2) .count) (s .limit) ≡ true
+  second-fits : (n : ℕ) → 2 ≤ n → movesFit s (kindNo (headAt l i .kind)) (firstMoves l i n) ≡ true → within (moveAt l i (n - 2) .count) (s .limit) ≡ true
   unfolding firstMoves movesFit every outerFits
   second-fits zero h e = absurd (omega arith)
   second-fits (suc zero) h e = absurd (omega arith)
   second-fits (suc (suc n)) h e =
       let z : suc (suc n) - 2 ≡ n = omega arith in
-      rw z (both-left _ _ (both-right (innerFits s (kindNo (headAt w l i .kind)) (moveAt w l i (suc n) .count)) _ e))
+      rw z (both-left _ _ (both-right (innerFits s (kindNo (headAt l i .kind)) (moveAt l i (suc n) .count)) _ e))
 
-  moves-least : 1 ≤ movesAt w l i
-  moves-least = first-fits (movesAt w l i) (fits-list .1) .0
+  moves-least : 1 ≤ movesAt l i
+  moves-least = first-fits (movesAt l i) (fits-list .1) .0
 
-  inner-most : Sized s → moveAt w l i (movesAt w l i - 1) .count ≤ 8
+  inner-most : Sized s → moveAt l i (movesAt l i - 1) .count ≤ maxLimit
   unfolding innerFits
   inner-most z =
-      pick-both (λ (b : Bool). b ≡ true → moveAt w l i (movesAt w l i - 1) .count ≤ 8) _
+      pick-both (λ (b : Bool). b ≡ true → moveAt l i (movesAt l i - 1) .count ≤ maxLimit) _
       (λ t e. let q = within-true _ _ e in let a = z .ranges .limit .high in omega arith)
-      (λ t e. let q : moveAt w l i (movesAt w l i - 1) .count ≡ 0 = eqb-true _ _ e in omega arith)
-      (first-fits (movesAt w l i) (fits-list .1) .1)
+      (λ t e. let q : moveAt l i (movesAt l i - 1) .count ≡ 0 = eqb-true _ _ e in omega arith)
+      (first-fits (movesAt l i) (fits-list .1) .1)
 
-  outer-most : Sized s → 2 ≤ movesAt w l i → moveAt w l i (movesAt w l i - 2) .count ≤ 8
+  outer-most : Sized s → 2 ≤ movesAt l i → moveAt l i (movesAt l i - 2) .count ≤ maxLimit
   outer-most z two =
-      let q = within-true _ _ (second-fits (movesAt w l i) two (fits-list .1)) in
+      let q = within-true _ _ (second-fits (movesAt l i) two (fits-list .1)) in
       let a = z .ranges .limit .high in
       omega arith
 
 -- the bounds of a mover that is loaded
-module _ (s : Settings) (l : List ℕ) (i : ℕ) (h : Head) (v : Mover) where
-  pub loaded-count : v ≡ moverAt 3 l i h → h ≡ headAt 3 l i → Sized s → fits 3 s (load 3 l i) ≡ true → 11 ≤ kindNo (h .kind) → v .inner .count ≤ 8
+module _ (w : ℕ) (s : Settings) (l : List ℕ) (i : ℕ) (h : Head) (v : Mover) where
+  pub loaded-count : v ≡ moverAt l i h → h ≡ headAt l i → Sized s → fits w s (load l i) ≡ true → 11 ≤ kindNo (h .kind) → v .inner .count ≤ maxLimit
   unfolding moverAt innerAt moveAt moveFrom
-  loaded-count a e z f k = rw a (inner-most 3 s l i f (rw e at k) z)
+  loaded-count a e z f k = rw a (inner-most w s l i f (rw e at k) z)
 
-  pub loaded-least : v ≡ moverAt 3 l i h → h ≡ headAt 3 l i → fits 3 s (load 3 l i) ≡ true → 11 ≤ kindNo (h .kind) → 1 ≤ v .moves
+  pub loaded-least : v ≡ moverAt l i h → h ≡ headAt l i → fits w s (load l i) ≡ true → 11 ≤ kindNo (h .kind) → 1 ≤ v .moves
   unfolding moverAt
-  loaded-least a e f k = rw a (moves-least 3 s l i f (rw e at k))
+  loaded-least a e f k = rw a (moves-least w s l i f (rw e at k))
 
 -- the questions that a moving kind is asked
-nine-moving : (w : ℕ) (s : Settings) (k : Kind) (h : Head) (ms : List Move) (m : Memory) (t : Step) → h .kind ≡ k → 11 ≤ kindNo k → unlessNine (question9 s (record′ h ms)) s h m t ≡ tried 0 t
+nine-moving : (s : Settings) (k : Kind) (h : Head) (ms : List Move) (m : Memory) (t : Step) → h .kind ≡ k → 11 ≤ kindNo k → unlessNine (question9 s (record′ h ms)) s h m t ≡ tried 0 t
 unfolding unlessNine question9 takesNode
-nine-moving w s k h ms m t e low =
+nine-moving s k h ms m t e low =
     let p : 11 ≤ kindNo (h .kind) = rw e low in
     pick-true _ _ _ (pick-false _ _ _ (pick-false _ _ _ (ne-eqb (kindNo (h .kind)) 2 (λ z. omega arith)) ∙ ne-eqb (kindNo (h .kind)) 6 (λ z. omega arith)))
 
@@ -123,10 +123,10 @@ both-yes a b e = simp e
 
 -- the Moves in a worker's words
 abbrev innermost : ℕ → List ℕ → ℕ → Move
-innermost w l i = moveAt w l i (movesAt w l i - 1)
+innermost w l i = moveAt l i (movesAt l i - 1)
 
 abbrev around : ℕ → List ℕ → ℕ → List Move
-around w l i = firstMoves w l i (movesAt w l i - 1)
+around w l i = firstMoves l i (movesAt l i - 1)
 
 -- what the turn of a loaded mover gives is what the definitions say
 module _ (w : ℕ) (s : Settings) (i : ℕ) (l : List ℕ) (m m′ : Memory) (r : Moved) where
@@ -134,37 +134,37 @@ module _ (w : ℕ) (s : Settings) (i : ℕ) (l : List ℕ) (m m′ : Memory) (r 
   Turned v = Gives v s m r m′ (λ a os. both (isMoving (v .head .kind)) (readsBy (v .head .kind) w s (v .head) (a ∷ os) m)) (λ a os. actBy (v .head .kind) w s (v .head) (a ∷ os) m)
 
   abbrev all : List Move
-  all = firstMoves w l i (movesAt w l i)
+  all = firstMoves l i (movesAt l i)
 
   -- the questions of a moving kind, and its act
-  asked-is : fits w s (load w l i) ≡ true → 11 ≤ kindNo (headAt w l i .kind) → unlessSix (both (isMoving (headAt w l i .kind)) (readsBy (headAt w l i .kind) w s (headAt w l i) all m)) s (headAt w l i) all m (tried 0 (actBy (headAt w l i .kind) w s (headAt w l i) all m)) ≡ triedOf w s (load w l i) m
+  asked-is : fits w s (load l i) ≡ true → 11 ≤ kindNo (headAt l i .kind) → unlessSix (both (isMoving (headAt l i .kind)) (readsBy (headAt l i .kind) w s (headAt l i) all m)) s (headAt l i) all m (tried 0 (actBy (headAt l i .kind) w s (headAt l i) all m)) ≡ triedOf w s (load l i) m
   unfolding triedOf load
   asked-is f low =
-      rw (both-yes _ (readsBy (headAt w l i .kind) w s (headAt w l i) all m) (is-moving (headAt w l i .kind) low (kind-most w s l i f low)), nine-moving w s (headAt w l i .kind) (headAt w l i) all m (actBy (headAt w l i .kind) w s (headAt w l i) all m) refl low) refl
+      rw (both-yes _ (readsBy (headAt l i .kind) w s (headAt l i) all m) (is-moving (headAt l i .kind) low (kind-most w s l i f low)), nine-moving s (headAt l i .kind) (headAt l i) all m (actBy (headAt l i .kind) w s (headAt l i) all m) refl low) refl
 
-  loaded-is : Sized s → fits w s (load w l i) ≡ true → 11 ≤ kindNo (headAt w l i .kind) → Turned (moverAt w l i (headAt w l i)) → moved (moverAt w l i (headAt w l i)) r (innermost w l i) (around w l i) m′ ≡ triedOf w s (load w l i) m
+  loaded-is : Sized s → fits w s (load l i) ≡ true → 11 ≤ kindNo (headAt l i .kind) → Turned (moverAt l i (headAt l i)) → moved (moverAt l i (headAt l i)) r (innermost w l i) (around w l i) m′ ≡ triedOf w s (load l i) m
   unfolding moverAt
   loaded-is z f low g =
-      let o : 1 ≤ movesAt w l i = moves-least w s l i f low in
-      g .gives (innermost w l i) (around w l i) (loaded-around w l i (headAt w l i) o (inner-most w s l i f low z) (outer-most w s l i f low z))
-      ∙ ap (λ (ms : List Move). unlessSix (both (isMoving (headAt w l i .kind)) (readsBy (headAt w l i .kind) w s (headAt w l i) ms m)) s (headAt w l i) ms m (tried 0 (actBy (headAt w l i .kind) w s (headAt w l i) ms m))) (loaded-moves w l i o)
+      let o : 1 ≤ movesAt l i = moves-least w s l i f low in
+      g .gives (innermost w l i) (around w l i) (loaded-around w l i (headAt l i) o (inner-most w s l i f low z) (outer-most w s l i f low z))
+      ∙ ap (λ (ms : List Move). unlessSix (both (isMoving (headAt l i .kind)) (readsBy (headAt l i .kind) w s (headAt l i) ms m)) s (headAt l i) ms m (tried 0 (actBy (headAt l i .kind) w s (headAt l i) ms m))) (loaded-moves w l i o)
       ∙ asked-is f low
 
   -- what a moving turn leaves of the head
-  pub tried-keeps : fits w s (load w l i) ≡ true → 11 ≤ kindNo (headAt w l i .kind) → Keeps (triedOf w s (load w l i) m .step′ .record′ .head) (headAt w l i)
+  pub tried-keeps : fits w s (load l i) ≡ true → 11 ≤ kindNo (headAt l i .kind) → Keeps (triedOf w s (load l i) m .step′ .record′ .head) (headAt l i)
   unfolding unlessSix
   tried-keeps f low =
-      subst (λ (t : Tried). Keeps (t .step′ .record′ .head) (headAt w l i)) (asked-is f low)
-      (pick-both (λ (t : Tried). Keeps (t .step′ .record′ .head) (headAt w l i)) (both (isMoving (headAt w l i .kind)) (readsBy (headAt w l i .kind) w s (headAt w l i) all m))
-      (λ e. kind-keeps (headAt w l i) w s m (headAt w l i .kind) all low (kind-most w s l i f low))
+      subst (λ (t : Tried). Keeps (t .step′ .record′ .head) (headAt l i)) (asked-is f low)
+      (pick-both (λ (t : Tried). Keeps (t .step′ .record′ .head) (headAt l i)) (both (isMoving (headAt l i .kind)) (readsBy (headAt l i .kind) w s (headAt l i) all m))
+      (λ e. kind-keeps (headAt l i) w s m (headAt l i .kind) all low (kind-most w s l i f low))
       (λ e. record { pixel-is = refl; held-is = refl; answer-is = refl; answer-node-is = refl }))
 
   -- a moving turn has no number but 6 and 0
-  tried-zero : fits w s (load w l i) ≡ true → 11 ≤ kindNo (headAt w l i .kind) → (triedOf w s (load w l i) m .number ≡ 6 → ⊥) → triedOf w s (load w l i) m .number ≡ 0
+  tried-zero : fits w s (load l i) ≡ true → 11 ≤ kindNo (headAt l i .kind) → (triedOf w s (load l i) m .number ≡ 6 → ⊥) → triedOf w s (load l i) m .number ≡ 0
   unfolding unlessSix
   tried-zero f low =
       let Zero : Tried → Type 0 = λ t. (t .number ≡ 6 → ⊥) → t .number ≡ 0 in
-      subst Zero (asked-is f low) (pick-both Zero (both (isMoving (headAt w l i .kind)) (readsBy (headAt w l i .kind) w s (headAt w l i) all m)) (λ e n. refl) (λ e n. absurd (n refl)))
+      subst Zero (asked-is f low) (pick-both Zero (both (isMoving (headAt l i .kind)) (readsBy (headAt l i .kind) w s (headAt l i) all m)) (λ e n. refl) (λ e n. absurd (n refl)))
 
 module _ (w : ℕ) (s : Settings) (i : ℕ) (h : Head) (nodes levels l : List ℕ) where
   abbrev pub Given : Mover → Moved → Memory → Type 0
@@ -173,52 +173,52 @@ module _ (w : ℕ) (s : Settings) (i : ℕ) (h : Head) (nodes levels l : List �
       (λ a os. both (isMoving (v .head .kind)) (readsBy (v .head .kind) w s (v .head) (a ∷ os) (memory nodes levels)))
       (λ a os. actBy (v .head .kind) w s (v .head) (a ∷ os) (memory nodes levels))
 
-  given-is : (r : Moved) (m′ : Memory) (v : Mover) → Given v r m′ → v ≡ moverAt w l i h → h ≡ headAt w l i → Given (moverAt w l i (headAt w l i)) r m′
+  given-is : (r : Moved) (m′ : Memory) (v : Mover) → Given v r m′ → v ≡ moverAt l i h → h ≡ headAt l i → Given (moverAt l i (headAt l i)) r m′
   given-is r m′ v g a e = rw (← e, ← a) g
 
   pub move-refused :
-      (v : Mover) (r : Moved) {d : Done} {n g : List ℕ} → d ≡ turnDone 6 s None → Given v r (memory n g) → v ≡ moverAt w l i h → r .number ≡ 6 → h ≡ headAt w l i → Sized s → fits w s (load w l i) ≡ true → 11 ≤ kindNo (h .kind)
-      → did d (areas n g l) ≡ didOf (exchangeOf w (load w l i) (memory nodes levels)) (finished w (triedOf w s (load w l i) (memory nodes levels)) i s (areas nodes levels l))
+      (v : Mover) (r : Moved) {d : Done} {n g : List ℕ} → d ≡ turnDone 6 s None → Given v r (memory n g) → v ≡ moverAt l i h → r .number ≡ 6 → h ≡ headAt l i → Sized s → fits w s (load l i) ≡ true → 11 ≤ kindNo (h .kind)
+      → did d (areas n g l) ≡ didOf (exchangeOf w (load l i) (memory nodes levels)) (finished (triedOf w s (load l i) (memory nodes levels)) i s (areas nodes levels l))
   move-refused v r {d} {n} {g} a gives b z e y f k =
-      let p : 11 ≤ kindNo (headAt w l i .kind) = rw e at k in
+      let p : 11 ≤ kindNo (headAt l i .kind) = rw e at k in
       let q = loaded-is w s i l (memory nodes levels) (memory n g) r y f p (given-is r (memory n g) v gives b e) in
-      finish-six w i s nodes levels l (triedOf w s (load w l i) (memory nodes levels)) _ (moved (moverAt w l i (headAt w l i)) r (innermost w l i) (around w l i) (memory n g) .step′) a q z (tried-memory w s (load w l i) (memory nodes levels))
+      finish-six w i s nodes levels l (triedOf w s (load l i) (memory nodes levels)) _ (moved (moverAt l i (headAt l i)) r (innermost w l i) (around w l i) (memory n g) .step′) a q z (tried-memory w s (load l i) (memory nodes levels))
 
-  most-of : fits w s (load w l i) ≡ true → 11 ≤ kindNo (headAt w l i .kind) → Sized s → moverAt w l i (headAt w l i) .inner .count ≤ 8
+  most-of : fits w s (load l i) ≡ true → 11 ≤ kindNo (headAt l i .kind) → Sized s → moverAt l i (headAt l i) .inner .count ≤ maxLimit
   unfolding moverAt innerAt moveAt moveFrom
   most-of f p y = inner-most w s l i f p y
 
   -- what is stored is within the record, and as if all of it were stored
-  kept-is : (r : Moved) {m′ : Memory} → Given (moverAt w l i (headAt w l i)) r m′ → moved (moverAt w l i (headAt w l i)) r (innermost w l i) (around w l i) m′ ≡ triedOf w s (load w l i) (memory nodes levels) → Sized s → fits w s (load w l i) ≡ true → 11 ≤ kindNo (headAt w l i .kind)
-      → moverTo w (r .mover) i l ≡ store w (record′ (r .mover .head) (listAfter (moverAt w l i (headAt w l i)) (r .mover) (innermost w l i) (around w l i))) i l
+  kept-is : (r : Moved) {m′ : Memory} → Given (moverAt l i (headAt l i)) r m′ → moved (moverAt l i (headAt l i)) r (innermost w l i) (around w l i) m′ ≡ triedOf w s (load l i) (memory nodes levels) → Sized s → fits w s (load l i) ≡ true → 11 ≤ kindNo (headAt l i .kind)
+      → moverTo (r .mover) i l ≡ store (record′ (r .mover .head) (listAfter (moverAt l i (headAt l i)) (r .mover) (innermost w l i) (around w l i))) i l
   kept-is r {m′} given q y f p =
-      let k : Keeps (r .mover .head) (headAt w l i) = subst (λ (t : Tried). Keeps (t .step′ .record′ .head) (headAt w l i)) (sym q) (tried-keeps w s i l (memory nodes levels) m′ r f p) in
+      let k : Keeps (r .mover .head) (headAt l i) = subst (λ (t : Tried). Keeps (t .step′ .record′ .head) (headAt l i)) (sym q) (tried-keeps w s i l (memory nodes levels) m′ r f p) in
       store-is w l i (r .mover) k (given .most (most-of f p y)) (moves-least w s l i f p) (given .counts)
 
   -- what its exchange came to
-  move-came : (r : Moved) {m′ : Memory} → moved (moverAt w l i (headAt w l i)) r (innermost w l i) (around w l i) m′ ≡ triedOf w s (load w l i) (memory nodes levels) → (r .number ≡ 6 → ⊥) → fits w s (load w l i) ≡ true → 11 ≤ kindNo (headAt w l i .kind)
-      → cameTo (kindNo (headAt w l i .kind)) (r .mover .head) (moverAt w l i (headAt w l i) .inner .count) (r .mover .inner .count)
-      ≡ pick (eqb (triedOf w s (load w l i) (memory nodes levels) .number) 0) (exchangeOf w (load w l i) (memory nodes levels)) None
+  move-came : (r : Moved) {m′ : Memory} → moved (moverAt l i (headAt l i)) r (innermost w l i) (around w l i) m′ ≡ triedOf w s (load l i) (memory nodes levels) → (r .number ≡ 6 → ⊥) → fits w s (load l i) ≡ true → 11 ≤ kindNo (headAt l i .kind)
+      → cameTo (kindNo (headAt l i .kind)) (r .mover .head) (moverAt l i (headAt l i) .inner .count) (r .mover .inner .count)
+      ≡ pick (eqb (triedOf w s (load l i) (memory nodes levels) .number) 0) (exchangeOf w (load l i) (memory nodes levels)) None
   unfolding load moverAt innerAt moveAt moveFrom inner outer
   move-came r q z f p =
-      let v = moverAt w l i (headAt w l i) in
-      let ms : innermost w l i ∷ around w l i ≡ firstMoves w l i (movesAt w l i) = loaded-moves w l i (moves-least w s l i f p) in
-      let before : innermost w l i .count ≡ inner (firstMoves w l i (movesAt w l i)) .count = ap (λ (u : List Move). inner u .count) ms in
-      let os : around w l i ≡ outer (firstMoves w l i (movesAt w l i)) = ap outer ms in
-      ap (λ (t : Tried). cameTo (kindNo (headAt w l i .kind)) (t .step′ .record′ .head) (innermost w l i .count) (r .mover .inner .count)) q
-      ∙ ap (λ (n : ℕ). cameTo (kindNo (headAt w l i .kind)) (triedOf w s (load w l i) (memory nodes levels) .step′ .record′ .head) n (r .mover .inner .count)) before
-      ∙ tried-came w s (headAt w l i) (firstMoves w l i (movesAt w l i)) (memory nodes levels) (r .mover .inner .count)
-      (λ u. rw (← before) (first-fits w s l i f p (movesAt w l i) (fits-list w s l i f p .1) .1))
+      let v = moverAt l i (headAt l i) in
+      let ms : innermost w l i ∷ around w l i ≡ firstMoves l i (movesAt l i) = loaded-moves w l i (moves-least w s l i f p) in
+      let before : innermost w l i .count ≡ inner (firstMoves l i (movesAt l i)) .count = ap (λ (u : List Move). inner u .count) ms in
+      let os : around w l i ≡ outer (firstMoves l i (movesAt l i)) = ap outer ms in
+      ap (λ (t : Tried). cameTo (kindNo (headAt l i .kind)) (t .step′ .record′ .head) (innermost w l i .count) (r .mover .inner .count)) q
+      ∙ ap (λ (n : ℕ). cameTo (kindNo (headAt l i .kind)) (triedOf w s (load l i) (memory nodes levels) .step′ .record′ .head) n (r .mover .inner .count)) before
+      ∙ tried-came w s (headAt l i) (firstMoves l i (movesAt l i)) (memory nodes levels) (r .mover .inner .count)
+      (λ u. rw (← before) (first-fits w s l i f p (movesAt l i) (fits-list w s l i f p .1) .1))
       (λ u x e. count-after v (r .mover) (innermost w l i) x (around w l i) (ap (λ (t : Tried). t .step′ .record′ .moves) q ∙ e ∙ ap (λ (ns : List Move). x ∷ ns) (sym os)))
       (λ u. z (ap (λ (t : Tried). t .number) q ∙ u))
 
   pub move-done :
-      (v : Mover) (r : Moved) {d : Done} {x : Exchange} {n g l′ : List ℕ} → d ≡ turnDone 0 (r .settings) x → x ≡ cameTo (kindNo (h .kind)) (r .mover .head) (v .inner .count) (r .mover .inner .count) → l′ ≡ moverTo w (r .mover) i l → Given v r (memory n g) → v ≡ moverAt w l i h → (r .number ≡ 6 → ⊥) → h ≡ headAt w l i → Sized s → fits w s (load w l i) ≡ true → 11 ≤ kindNo (h .kind)
-      → did d (areas n g l′) ≡ didOf (exchangeOf w (load w l i) (memory nodes levels)) (finished w (triedOf w s (load w l i) (memory nodes levels)) i s (areas nodes levels l))
+      (v : Mover) (r : Moved) {d : Done} {x : Exchange} {n g l′ : List ℕ} → d ≡ turnDone 0 (r .settings) x → x ≡ cameTo (kindNo (h .kind)) (r .mover .head) (v .inner .count) (r .mover .inner .count) → l′ ≡ moverTo (r .mover) i l → Given v r (memory n g) → v ≡ moverAt l i h → (r .number ≡ 6 → ⊥) → h ≡ headAt l i → Sized s → fits w s (load l i) ≡ true → 11 ≤ kindNo (h .kind)
+      → did d (areas n g l′) ≡ didOf (exchangeOf w (load l i) (memory nodes levels)) (finished (triedOf w s (load l i) (memory nodes levels)) i s (areas nodes levels l))
   move-done v r {d} {x} {n} {g} {l′} a o c gives b z e y f k =
-      let p : 11 ≤ kindNo (headAt w l i .kind) = rw e at k in
-      let given : Given (moverAt w l i (headAt w l i)) r (memory n g) = given-is r (memory n g) v gives b e in
+      let p : 11 ≤ kindNo (headAt l i .kind) = rw e at k in
+      let given : Given (moverAt l i (headAt l i)) r (memory n g) = given-is r (memory n g) v gives b e in
       let q = loaded-is w s i l (memory nodes levels) (memory n g) r y f p given in
-      let number-is : r .number ≡ triedOf w s (load w l i) (memory nodes levels) .number = ap (λ (t : Tried). t .number) q in
+      let number-is : r .number ≡ triedOf w s (load l i) (memory nodes levels) .number = ap (λ (t : Tried). t .number) q in
       let zero : r .number ≡ 0 = number-is ∙ tried-zero w s i l (memory nodes levels) (memory n g) r f p (λ u. z (number-is ∙ u)) in
-      finish-done w i s nodes levels l (triedOf w s (load w l i) (memory nodes levels)) _ (moved (moverAt w l i (headAt w l i)) r (innermost w l i) (around w l i) (memory n g) .step′) (a ∙ ap (λ k. turnDone k (r .settings) x) (sym zero)) (o ∙ rw (b, e) (move-came r q z f p)) (c ∙ kept-is r given q y f p) q z
+      finish-done w i s nodes levels l (triedOf w s (load l i) (memory nodes levels)) _ (moved (moverAt l i (headAt l i)) r (innermost w l i) (around w l i) (memory n g) .step′) (a ∙ ap (λ k. turnDone k (r .settings) x) (sym zero)) (o ∙ rw (b, e) (move-came r q z f p)) (c ∙ kept-is r given q y f p) q z

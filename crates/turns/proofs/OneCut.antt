@@ -47,10 +47,10 @@ cut : (q₁ q₂ q₃ q₄ fit idle reads left : Bool) (w : ℕ) (s : Settings) 
     → let t = firstNo (asks 1 q₁ ∷ asks 2 q₂ ∷ asks 3 q₃ ∷ []) in
     let f = pick (eqb t 0) (pick q₄ 0 4) t in
     let n = firstNo (asks 1 q₁ ∷ asks 2 q₂ ∷ asks 3 q₃ ∷ asks 4 q₄ ∷ asks 6 (both fit reads) ∷ asks 8 (not idle) ∷ asks 9 left ∷ []) in
-    let r = recordOf w a i in
+    let r = recordOf a i in
     let u = unlessSix reads s (r .head) (r .moves) (memoryOf a) (unlessNine left s (r .head) (memoryOf a) (act w s r (memoryOf a))) in
-    pick (eqb f 0) (pick fit (pick idle (refused 8 s a) (finished w u i s a)) (refused 6 s a)) (refused f s a)
-    ≡ pick (eqb n 9) (full w s i a) (unlessRefused n s a (taken w (act w s r (memoryOf a)) i (a .workers)))
+    pick (eqb f 0) (pick fit (pick idle (refused 8 s a) (finished u i s a)) (refused 6 s a)) (refused f s a)
+    ≡ pick (eqb n 9) (full s i a) (unlessRefused n s a (taken (act w s r (memoryOf a)) i (a .workers)))
 unfolding firstNo pick both unlessSix unlessNine finished unlessRefused taken full fullRecord
 cut false q₂ q₃ q₄ fit idle reads left w s i a h = refl
 cut true false q₃ q₄ fit idle reads left w s i a h = refl
@@ -69,6 +69,6 @@ pub turn-cut : (w : ℕ) (s : Settings) (i : ℕ) (a : Areas)
     ≡ turn w s i a
 unfolding turn turnQuestions turnHere triedOf act firstFour firstThree question6 question8
 turn-cut w s i a =
-    cut (question1 s) (question2Of w s a) (question3 w s) (question4 s i) (fits w s (recordOf w a i)) (question7 (recordOf w a i))
-    (readsBy (recordOf w a i .head .kind) w s (recordOf w a i .head) (recordOf w a i .moves) (memoryOf a)) (question9 s (recordOf w a i)) w s i a
-    (idle-reads w s (recordOf w a i) (memoryOf a))
+    cut (question1 s) (question2Of w s a) (question3 w s) (question4 s i) (fits w s (recordOf a i)) (question7 (recordOf a i))
+    (readsBy (recordOf a i .head .kind) w s (recordOf a i .head) (recordOf a i .moves) (memoryOf a)) (question9 s (recordOf a i)) w s i a
+    (idle-reads w s (recordOf a i) (memoryOf a))

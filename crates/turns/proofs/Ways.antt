@@ -11,9 +11,8 @@ use lib.ListN.{length}
 use borrow.Author.Tests.{eq-eqb, ne-eqb, eqb-true, eqb-false, le-leb, leb-true, leb-false, ltb-true}
 use Rattle.words.specs.Choice.{pick, both}
 use Rattle.words.proofs.Choice.{pick-true, pick-false, both-right}
-use Rattle.settings.specs.Sizes.{question2, maxMoves, workerWords}
+use Rattle.settings.specs.Sizes.{question2, workerWords}
 use Rattle.settings.specs.Cut.{firstThree}
-use Rattle.words.specs.Digits.{depths}
 use Rattle.settings.specs.declared.Settings.{Settings}
 use Rattle.settings.proofs.Laws.{three-yes}
 use Rattle.areas.specs.Memory.{memory, areas}
@@ -43,52 +42,52 @@ pub three-of : (w : ℕ) (s : Settings) (n g k : List ℕ) → firstThree w s (l
 three-of w s n g k e = let y = three-yes w s (length n) (length g) (length k) e in record { workers-is = refl; one = y .0; two = y .1; three = y .2 }
 
 -- a record that fits with a searching kind has no Moves
-no-moves : (w : ℕ) (s : Settings) (l : List ℕ) (i : ℕ) → fits w s (load w l i) ≡ true → 1 ≤ kindNo (headAt w l i .kind) → kindNo (headAt w l i .kind) ≤ 10 → load w l i ≡ record′ (headAt w l i) []
+no-moves : (w : ℕ) (s : Settings) (l : List ℕ) (i : ℕ) → fits w s (load l i) ≡ true → 1 ≤ kindNo (headAt l i .kind) → kindNo (headAt l i .kind) ≤ 10 → load l i ≡ record′ (headAt l i) []
 unfolding load fits fitsBy firstMoves
 no-moves w s l i e low high =
-    let f : both (callFits s (kindNo (headAt w l i .kind)) (headAt w l i)) (eqb (length (firstMoves w l i (movesAt w l i))) 0) ≡ true =
-    sym (pick-false _ _ _ (ne-eqb (kindNo (headAt w l i .kind)) 0 (λ z. omega arith)) ∙ pick-true _ _ _ (le-leb _ _ high)) ∙ e
+    let f : both (callFits s (kindNo (headAt l i .kind)) (headAt l i)) (eqb (length (firstMoves l i (movesAt l i))) 0) ≡ true =
+    sym (pick-false _ _ _ (ne-eqb (kindNo (headAt l i .kind)) 0 (λ z. omega arith)) ∙ pick-true _ _ _ (le-leb _ _ high)) ∙ e
     in
-    let z : movesAt w l i ≡ 0 = sym (length-first w l i (movesAt w l i)) ∙ eqb-true _ _ (both-right _ _ f) in
-    ap (λ (n : ℕ). record′ (headAt w l i) (firstMoves w l i n)) z
+    let z : movesAt l i ≡ 0 = sym (length-first l i (movesAt l i)) ∙ eqb-true _ _ (both-right _ _ f) in
+    ap (λ (n : ℕ). record′ (headAt l i) (firstMoves l i n)) z
 
 module _ (w : ℕ) (s : Settings) (i : ℕ) (n g l : List ℕ) where
   -- a record that does not fit
-  pub here-six : {d : Done} {b : Bool} → d ≡ turnDone 6 s None → b ≡ fits w s (load w l i) → b ≡ false → did d (areas n g l) ≡ didHere w s i (areas n g l)
+  pub here-six : {d : Done} {b : Bool} → d ≡ turnDone 6 s None → b ≡ fits w s (load l i) → b ≡ false → did d (areas n g l) ≡ didHere w s i (areas n g l)
   unfolding turnHere
   here-six a q z = rw (a, pick-false _ _ (refused 6 s (areas n g l)) (sym q ∙ z)) (sym (did-six s _ (areas n g l)))
 
   -- what is handed on of a turn of the record r
   abbrev didFrom : Record → Did
-  didFrom r = didOf (exchangeOf w r (memory n g)) (finished w (triedOf w s r (memory n g)) i s (areas n g l))
+  didFrom r = didOf (exchangeOf w r (memory n g)) (finished (triedOf w s r (memory n g)) i s (areas n g l))
 
   -- one that fits, with a call open
-  pub here-open : {x : Did} {b : Bool} {h : Head} → x ≡ didFrom (load w l i) → b ≡ fits w s (load w l i) → b ≡ true → h ≡ headAt w l i → 1 ≤ kindNo (h .kind) → x ≡ didHere w s i (areas n g l)
+  pub here-open : {x : Did} {b : Bool} {h : Head} → x ≡ didFrom (load l i) → b ≡ fits w s (load l i) → b ≡ true → h ≡ headAt l i → 1 ≤ kindNo (h .kind) → x ≡ didHere w s i (areas n g l)
   unfolding turnHere question7 load
   here-open {h = h} a q z e low =
-      let y : kindNo (headAt w l i .kind) ≢ 0 = λ u. let v : kindNo (h .kind) ≡ 0 = ap (λ (t : Head). kindNo (t .kind)) e ∙ u in omega arith in
+      let y : kindNo (headAt l i .kind) ≢ 0 = λ u. let v : kindNo (h .kind) ≡ 0 = ap (λ (t : Head). kindNo (t .kind)) e ∙ u in omega arith in
       a ∙ ap (didOf _) (sym (pick-true _ _ _ (sym q ∙ z) ∙ pick-false _ _ _ (ne-eqb _ _ y)))
 
   -- the same of a moving head
-  pub here-move : {x : Did} {b : Bool} {h : Head} → x ≡ didFrom (load w l i) → b ≡ fits w s (load w l i) → b ≡ true → h ≡ headAt w l i → 11 ≤ kindNo (h .kind) → x ≡ didHere w s i (areas n g l)
+  pub here-move : {x : Did} {b : Bool} {h : Head} → x ≡ didFrom (load l i) → b ≡ fits w s (load l i) → b ≡ true → h ≡ headAt l i → 11 ≤ kindNo (h .kind) → x ≡ didHere w s i (areas n g l)
   here-move a q z e low = here-open a q z e (omega arith)
 
   -- the same of a searching head, which has no Moves
-  pub here-search : {x : Did} {b : Bool} {h : Head} → x ≡ didFrom (record′ h []) → b ≡ fits w s (load w l i) → b ≡ true → h ≡ headAt w l i → 1 ≤ kindNo (h .kind) → kindNo (h .kind) ≤ 10 → x ≡ didHere w s i (areas n g l)
+  pub here-search : {x : Did} {b : Bool} {h : Head} → x ≡ didFrom (record′ h []) → b ≡ fits w s (load l i) → b ≡ true → h ≡ headAt l i → 1 ≤ kindNo (h .kind) → kindNo (h .kind) ≤ 10 → x ≡ didHere w s i (areas n g l)
   here-search {h = h} a q z e low high =
-      let m : load w l i ≡ record′ h [] = no-moves w s l i (sym q ∙ z) (rw (← e) low) (rw (← e) high) ∙ ap (λ (u : Head). record′ u []) (sym e) in
+      let m : load l i ≡ record′ h [] = no-moves w s l i (sym q ∙ z) (rw (← e) low) (rw (← e) high) ∙ ap (λ (u : Head). record′ u []) (sym e) in
       here-open (a ∙ ap didFrom (sym m)) q z e low
 
   -- an idle worker, by two words of it
-  pub here-idle : {b : Bool} {c : ℕ} → c ≡ headAt w l i .answer → b ≡ eqb (kindNo (headAt w l i .kind)) 0 → b ≡ true → turnHere w s i (areas n g l) ≡ pick (leb c 3) (refused 8 s (areas n g l)) (refused 6 s (areas n g l))
+  pub here-idle : {b : Bool} {c : ℕ} → c ≡ headAt l i .answer → b ≡ eqb (kindNo (headAt l i .kind)) 0 → b ≡ true → turnHere w s i (areas n g l) ≡ pick (leb c 3) (refused 8 s (areas n g l)) (refused 6 s (areas n g l))
   unfolding turnHere question7 load
   here-idle {b} {c} e q z =
-      let f : leb c 3 ≡ fits w s (load w l i) = fits-idle w s l i {k = kindNo (headAt w l i .kind)} {h = headAt w l i} (ap (λ (u : ℕ). leb u 3) e) (sym q ∙ z) refl refl in
-      rw f (ap (λ (x : Result). pick (fits w s (load w l i)) x (refused 6 s (areas n g l))) (pick-true _ _ _ (sym q ∙ z)))
+      let f : leb c 3 ≡ fits w s (load l i) = fits-idle w s l i {k = kindNo (headAt l i .kind)} {h = headAt l i} (ap (λ (u : ℕ). leb u 3) e) (sym q ∙ z) refl refl in
+      rw f (ap (λ (x : Result). pick (fits w s (load l i)) x (refused 6 s (areas n g l))) (pick-true _ _ _ (sym q ∙ z)))
 
   -- a worker whose words are there
-  pub did-outside : (d : Done) {b : Bool} → b ≡ leb (128 * i + 128) (length l) → b ≡ false → 128 * i + 128 ≤ length l → did d (areas n g l) ≡ didHere w s i (areas n g l)
-  did-outside d q z h = let y : length l < 128 * i + 128 = leb-false _ _ (sym q ∙ z) in absurd (omega arith)
+  pub did-outside : (d : Done) {b : Bool} → b ≡ leb (workerWords * i + workerWords) (length l) → b ≡ false → workerWords * i + workerWords ≤ length l → did d (areas n g l) ≡ didHere w s i (areas n g l)
+  did-outside d q z h = let y : length l < workerWords * i + workerWords = leb-false _ _ (sym q ∙ z) in absurd (omega arith)
 
   pub here-turn : {q : ℕ} → q ≡ firstFour w s i (length n) (length g) (length l) → q ≡ 0 → turnHere w s i (areas n g l) ≡ turn w s i (areas n g l)
   here-turn e z = sym (pick-true _ _ _ (eq-eqb _ _ (sym e ∙ z))) ∙ turn-cut w s i (areas n g l)
@@ -98,19 +97,19 @@ module _ (w : ℕ) (s : Settings) (i : ℕ) (n g l : List ℕ) where
       let y : firstFour w s i (length n) (length g) (length l) ≢ 0 = λ u. z (e ∙ u) in
       rw (a, e) (sym (pick-false _ _ _ (ne-eqb _ _ y)) ∙ turn-cut w s i (areas n g l))
 
-module _ (w : ℕ) (l : List ℕ) (i : ℕ) where
-  pub not-idle : {b : Bool} → b ≡ eqb (kindNo (headAt w l i .kind)) 0 → b ≡ false → 1 ≤ kindNo (headAt w l i .kind)
-  not-idle q z = let y : kindNo (headAt w l i .kind) ≢ 0 = eqb-false _ _ (sym q ∙ z) in omega arith
+module _ (l : List ℕ) (i : ℕ) where
+  pub not-idle : {b : Bool} → b ≡ eqb (kindNo (headAt l i .kind)) 0 → b ≡ false → 1 ≤ kindNo (headAt l i .kind)
+  not-idle q z = let y : kindNo (headAt l i .kind) ≢ 0 = eqb-false _ _ (sym q ∙ z) in omega arith
 
-  pub head-open : (h : Head) → h ≡ headAt w l i → 1 ≤ kindNo (headAt w l i .kind) → 1 ≤ kindNo (h .kind)
+  pub head-open : (h : Head) → h ≡ headAt l i → 1 ≤ kindNo (headAt l i .kind) → 1 ≤ kindNo (h .kind)
   head-open h e k = rw e k
 
 -- a yes to questions 1 to 4: the words of the worker are there
-pub three-inside : (s : Settings) (i n g k : ℕ) → firstThree 3 s n g k ≡ 0 → i < s .workers → 128 * i + 128 ≤ k
-unfolding question2 workerWords maxMoves depths
-three-inside s i n g k e h =
-    let y = three-yes 3 s n g k e in
-    let q : 128 * s .workers ≤ k = leb-true _ _ (both-right _ _ (both-right _ _ (y .1))) in
+pub three-inside : (w : ℕ) (s : Settings) (i n g k : ℕ) → firstThree w s n g k ≡ 0 → i < s .workers → workerWords * i + workerWords ≤ k
+unfolding question2
+three-inside w s i n g k e h =
+    let y = three-yes w s n g k e in
+    let q : workerWords * s .workers ≤ k = leb-true _ _ (both-right _ _ (both-right _ _ (y .1))) in
     omega arith
 
 pub four-yes : (b : Bool) → _≡_ {A = ℕ} (pick b 0 4) 0 → b ≡ true
@@ -118,8 +117,8 @@ unfolding pick
 four-yes true e = refl
 four-yes false e = absurd (omega arith)
 
-pub four-inside : (s : Settings) (i n g k : ℕ) {q : ℕ} → q ≡ firstFour 3 s i n g k → q ≡ 0 → 128 * i + 128 ≤ k
+pub four-inside : (w : ℕ) (s : Settings) (i n g k : ℕ) {q : ℕ} → q ≡ firstFour w s i n g k → q ≡ 0 → workerWords * i + workerWords ≤ k
 unfolding firstFour question4
-four-inside s i n g k a e =
-    let (y, z) = both-zero (firstThree 3 s n g k) _ (sym a ∙ e) in
-    three-inside s i n g k y (ltb-true _ _ (four-yes _ z))
+four-inside w s i n g k a e =
+    let (y, z) = both-zero (firstThree w s n g k) _ (sym a ∙ e) in
+    three-inside w s i n g k y (ltb-true _ _ (four-yes _ z))

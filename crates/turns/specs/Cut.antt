@@ -24,18 +24,18 @@ triedOf w s r m =
     (unlessNine (question9 s r) s (r .head) m (actBy (r .head .kind) w s (r .head) (r .moves) m))
 
 -- what a turn leaves of it: a refusal by 6 nothing, else the record is stored
-unfoldable pub finished : ℕ → Tried → ℕ → Settings → Areas → Result
-finished w t i s a =
+unfoldable pub finished : Tried → ℕ → Settings → Areas → Result
+finished t i s a =
     pick (eqb (t .number) 6)
     (refused 6 s a)
     (result (reply (t .number) (t .step′ .answer) 0 (t .step′ .settings))
-    (areas (t .step′ .memory .nodes) (t .step′ .memory .levels) (store w (t .step′ .record′) i (a .workers))))
+    (areas (t .step′ .memory .nodes) (t .step′ .memory .levels) (store (t .step′ .record′) i (a .workers))))
 
 -- a turn of a worker below workers: that the record fits, question 8, then what the kind's method gives
 unfoldable pub turnHere : ℕ → Settings → ℕ → Areas → Result
 turnHere w s i a =
-    pick (fits w s (recordOf w a i))
-    (pick (question7 (recordOf w a i)) (refused 8 s a) (finished w (triedOf w s (recordOf w a i) (memoryOf a)) i s a))
+    pick (fits w s (recordOf a i))
+    (pick (question7 (recordOf a i)) (refused 8 s a) (finished (triedOf w s (recordOf a i) (memoryOf a)) i s a))
     (refused 6 s a)
 
 -- what is handed on of a turn, with the areas
@@ -54,7 +54,7 @@ unfoldable pub didOf : Exchange → Result → Did
 didOf e x = did (turnDone (x .reply .number) (x .reply .settings) (pick (eqb (x .reply .number) 0) e None)) (x .areas)
 
 abbrev pub didHere : ℕ → Settings → ℕ → Areas → Did
-didHere w s i a = didOf (exchangeOf w (recordOf w a i) (memoryOf a)) (turnHere w s i a)
+didHere w s i a = didOf (exchangeOf w (recordOf a i) (memoryOf a)) (turnHere w s i a)
 
 -- what an exchange came to, as the code tells it: what was put into the cell is no longer in hand, or no longer remembered
 unfoldable pub byHeld : ℕ → Exchange

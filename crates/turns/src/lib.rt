@@ -5,6 +5,7 @@ ghost use mathlib.Core.Bool.{true};
 ghost use mathlib.Core.List.{[]};
 ghost use Prim.Native.Nat.{_+_, _*_, _≤_};
 ghost use lib.ListN.{length};
+ghost use Rattle.settings.specs.Sizes.{workerWords};
 ghost use Rattle.settings.specs.Cut.{Sized};
 ghost use Rattle.areas.specs.Memory.{areas, memory};
 ghost use Rattle.record.specs.Kinds.{kindNo};
@@ -90,7 +91,7 @@ fn came_to(k: Kind, h: Head, before: u32, after: u32) -> Exchange
 
 // What a searching turn leaves in the worker's words: the head, and a Move that has begun.
 fn keep_search(t: Turned, i: u32, workers: &mut [u32])
-    ensures { λ r. ⌜ now (workers .exit) ≡ store 3 (record′ (t .worker .head) (begun (t .worker .head .level) (t .child) [])) i (now (workers .entry)) ⌝ }
+    ensures { λ r. ⌜ now (workers .exit) ≡ store (record′ (t .worker .head) (begun (t .worker .head .level) (t .child) [])) i (now (workers .entry)) ⌝ }
 {
     let w = t.worker;
     let h = w.head;
@@ -115,7 +116,7 @@ fn search_turn(
     requires { ⌜ Sized s ⌝ }
     requires { ⌜ 1 ≤ kindNo (h .kind) ⌝ }
     requires { ⌜ kindNo (h .kind) ≤ 10 ⌝ }
-    ensures { λ d. ⌜ did d (areas (now (nodes .exit)) (now (levels .exit)) (now (workers .exit))) ≡ didOf (exchangeOf 3 (record′ h []) (memory (now (nodes .entry)) (now (levels .entry)))) (finished 3 (triedOf 3 s (record′ h []) (memory (now (nodes .entry)) (now (levels .entry)))) i s (areas (now (nodes .entry)) (now (levels .entry)) (now (workers .entry)))) ⌝ }
+    ensures { λ d. ⌜ did d (areas (now (nodes .exit)) (now (levels .exit)) (now (workers .exit))) ≡ didOf (exchangeOf (s .width) (record′ h []) (memory (now (nodes .entry)) (now (levels .entry)))) (finished (triedOf (s .width) s (record′ h []) (memory (now (nodes .entry)) (now (levels .entry)))) i s (areas (now (nodes .entry)) (now (levels .entry)) (now (workers .entry)))) ⌝ }
 {
     let w = Worker { head: h };
     let t = w.turn(s, nodes, levels);
@@ -141,10 +142,10 @@ fn move_turn(
     workers: &mut [u32],
 ) -> Done
     requires { ⌜ Sized s ⌝ }
-    requires { ⌜ h ≡ headAt 3 (now workers) i ⌝ }
-    requires { ⌜ fits 3 s (load 3 (now workers) i) ≡ true ⌝ }
+    requires { ⌜ h ≡ headAt (now workers) i ⌝ }
+    requires { ⌜ fits (s .width) s (load (now workers) i) ≡ true ⌝ }
     requires { ⌜ 11 ≤ kindNo (h .kind) ⌝ }
-    ensures { λ d. ⌜ did d (areas (now (nodes .exit)) (now (levels .exit)) (now (workers .exit))) ≡ didOf (exchangeOf 3 (load 3 (now (workers .entry)) i) (memory (now (nodes .entry)) (now (levels .entry)))) (finished 3 (triedOf 3 s (load 3 (now (workers .entry)) i) (memory (now (nodes .entry)) (now (levels .entry)))) i s (areas (now (nodes .entry)) (now (levels .entry)) (now (workers .entry)))) ⌝ }
+    ensures { λ d. ⌜ did d (areas (now (nodes .exit)) (now (levels .exit)) (now (workers .exit))) ≡ didOf (exchangeOf (s .width) (load (now (workers .entry)) i) (memory (now (nodes .entry)) (now (levels .entry)))) (finished (triedOf (s .width) s (load (now (workers .entry)) i) (memory (now (nodes .entry)) (now (levels .entry)))) i s (areas (now (nodes .entry)) (now (levels .entry)) (now (workers .entry)))) ⌝ }
 {
     let v = Mover::load(workers, i, h);
     let t = v.turn(s, nodes, levels);
@@ -172,10 +173,10 @@ fn search_here(
     workers: &mut [u32],
 ) -> Done
     requires { ⌜ Sized s ⌝ }
-    requires { ⌜ h ≡ headAt 3 (now workers) i ⌝ }
+    requires { ⌜ h ≡ headAt (now workers) i ⌝ }
     requires { ⌜ 1 ≤ kindNo (h .kind) ⌝ }
     requires { ⌜ kindNo (h .kind) ≤ 10 ⌝ }
-    ensures { λ d. ⌜ did d (areas (now (nodes .exit)) (now (levels .exit)) (now (workers .exit))) ≡ didHere 3 s i (areas (now (nodes .entry)) (now (levels .entry)) (now (workers .entry))) ⌝ }
+    ensures { λ d. ⌜ did d (areas (now (nodes .exit)) (now (levels .exit)) (now (workers .exit))) ≡ didHere (s .width) s i (areas (now (nodes .entry)) (now (levels .entry)) (now (workers .entry))) ⌝ }
 {
     if search_fits(s, h, workers, i) {
         search_turn(s, i, h, nodes, levels, workers)
@@ -194,9 +195,9 @@ fn move_here(
     workers: &mut [u32],
 ) -> Done
     requires { ⌜ Sized s ⌝ }
-    requires { ⌜ h ≡ headAt 3 (now workers) i ⌝ }
+    requires { ⌜ h ≡ headAt (now workers) i ⌝ }
     requires { ⌜ 11 ≤ kindNo (h .kind) ⌝ }
-    ensures { λ d. ⌜ did d (areas (now (nodes .exit)) (now (levels .exit)) (now (workers .exit))) ≡ didHere 3 s i (areas (now (nodes .entry)) (now (levels .entry)) (now (workers .entry))) ⌝ }
+    ensures { λ d. ⌜ did d (areas (now (nodes .exit)) (now (levels .exit)) (now (workers .exit))) ≡ didHere (s .width) s i (areas (now (nodes .entry)) (now (levels .entry)) (now (workers .entry))) ⌝ }
 {
     if move_fits(s, h, workers, i) {
         move_turn(s, i, h, nodes, levels, workers)
@@ -215,9 +216,9 @@ pub fn open_here(
     workers: &mut [u32],
 ) -> Done
     requires { ⌜ Sized s ⌝ }
-    requires { ⌜ 128 * i + 128 ≤ length (now workers) ⌝ }
-    requires { ⌜ 1 ≤ kindNo (headAt 3 (now workers) i .kind) ⌝ }
-    ensures { λ d. ⌜ did d (areas (now (nodes .exit)) (now (levels .exit)) (now (workers .exit))) ≡ didHere 3 s i (areas (now (nodes .entry)) (now (levels .entry)) (now (workers .entry))) ⌝ }
+    requires { ⌜ workerWords * i + workerWords ≤ length (now workers) ⌝ }
+    requires { ⌜ 1 ≤ kindNo (headAt (now workers) i .kind) ⌝ }
+    ensures { λ d. ⌜ did d (areas (now (nodes .exit)) (now (levels .exit)) (now (workers .exit))) ≡ didHere (s .width) s i (areas (now (nodes .entry)) (now (levels .entry)) (now (workers .entry))) ⌝ }
 {
     if inside(workers, i) {
         let h = Head::load(workers, i);
@@ -229,6 +230,7 @@ pub fn open_here(
             nodes: s.nodes,
             nodes_taken: s.nodes_taken,
             levels_taken: s.levels_taken,
+            width: s.width,
         };
         if kind_no(k) <= 10 {
             search_here(n, i, h, nodes, levels, workers)

@@ -7,6 +7,7 @@ use lib.Dec.{ltb, eqb}
 use Rattle.words.specs.Choice.{pick}
 use Rattle.words.proofs.Choice.{via, both-left, both-right}
 use Rattle.settings.specs.declared.Settings.{Settings}
+use Rattle.settings.specs.Sizes.{maxNodes, mostLevels}
 use Rattle.settings.specs.Cut.{Sized}
 use Rattle.areas.specs.Memory.{levelTaken}
 use Rattle.record.specs.declared.Head.{Head}
@@ -25,10 +26,10 @@ module _ (s : Settings) (h : Head) where
 
 -- what a yes says of numbers: Take, TakeTail
 module _ (s : Settings) (h : Head) {r : Bool} where
-  pub takes-level : r ≡ takes s h → r ≡ true → Sized s → h .level ≤ 28689
+  pub takes-level : r ≡ takes s h → r ≡ true → Sized s → h .level ≤ mostLevels
   unfolding takes
   takes-level a e z = level-most s (h .level) (both-left _ _ (via a e)) z
 
-  pub takes-held : r ≡ takes s h → r ≡ true → Sized s → h .«held_node» ≤ 4096
+  pub takes-held : r ≡ takes s h → r ≡ true → Sized s → h .«held_node» ≤ maxNodes
   unfolding takes spare
   takes-held a e z = node-most s (h .«held_node») (both-right (levelTaken s (h .level)) _ (via a e)) z

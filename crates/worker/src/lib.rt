@@ -5,6 +5,8 @@ ghost use mathlib.Core.List.{[]};
 ghost use Prim.Native.Nat.{_≤_, _-_};
 ghost use Rattle.rules.specs.Heads.{holdingLevel, ended};
 ghost use Rattle.words.specs.Choice.{pick, both};
+ghost use Rattle.words.specs.Digits.{DigitWidth};
+ghost use Rattle.settings.specs.Sizes.{maxLimit, maxNodes, mostDepth, mostLevels};
 ghost use Rattle.settings.specs.Cut.{Sized};
 ghost use Rattle.areas.specs.Memory.{memory, depthAt, refTaken};
 ghost use Rattle.rules.specs.Steps.{peeked, withNode, takeNode, takeLevel, beginsMove};
@@ -104,16 +106,17 @@ fn node_left(s: Settings, h: Head) -> bool
 }
 
 // K's entry in H.
-fn entry_of(h: Head, levels: &[u32]) -> Cell
-    ensures { λ r. ⌜ r ≡ entryOf 3 h (now (levels .entry)) ⌝ }
+fn entry_of(w: u32, h: Head, levels: &[u32]) -> Cell
+    requires { ⌜ DigitWidth w ⌝ }
+    ensures { λ r. ⌜ r ≡ entryOf w h (now (levels .entry)) ⌝ }
 {
-    entry_cell(levels, h.level, h.pixel)
+    entry_cell(w, levels, h.level, h.pixel)
 }
 
 // Node i is filled, and in hand for the next kind.
 fn with_node(k: Kind, s: Settings, h: Head, i: u32, nodes: &mut [u32], levels: &[u32]) -> Turned
-    requires { ⌜ i ≤ 4096 ⌝ }
-    requires { ⌜ h .level ≤ 28689 ⌝ }
+    requires { ⌜ i ≤ maxNodes ⌝ }
+    requires { ⌜ h .level ≤ mostLevels ⌝ }
     ensures { λ r. ⌜ turned r (memory (now (nodes .exit)) (now (levels .entry))) ≡ tried 0 (withNode k s h i (memory (now (nodes .entry)) (now (levels .entry)))) ⌝ }
 {
     fill_node(nodes, i, h.pixel, level_ref(h.level));
@@ -123,8 +126,8 @@ fn with_node(k: Kind, s: Settings, h: Head, i: u32, nodes: &mut [u32], levels: &
 // The spare node is used, else the next number.
 fn take_node(k: Kind, s: Settings, h: Head, nodes: &mut [u32], levels: &[u32]) -> Turned
     requires { ⌜ Sized s ⌝ }
-    requires { ⌜ h .level ≤ 28689 ⌝ }
-    requires { ⌜ h .«held_node» ≤ 4096 ⌝ }
+    requires { ⌜ h .level ≤ mostLevels ⌝ }
+    requires { ⌜ h .«held_node» ≤ maxNodes ⌝ }
     ensures { λ r. ⌜ turned r (memory (now (nodes .exit)) (now (levels .entry))) ≡ tried 0 (takeNode k s h (memory (now (nodes .entry)) (now (levels .entry)))) ⌝ }
 {
     if h.held_node == 0 {
@@ -212,10 +215,11 @@ fn follow_met(
     nodes: &[u32],
     levels: &[u32],
 ) -> Turned
-    requires { ⌜ s .limit ≤ 8 ⌝ }
-    ensures { λ r. ⌜ turned r (memory (now (nodes .entry)) (now (levels .entry))) ≡ unlessSix (both before (followsRef 3 s h word (memory (now (nodes .entry)) (now (levels .entry))))) s h [] (memory (now (nodes .entry)) (now (levels .entry))) (tried 0 (followWord 3 s h word (memory (now (nodes .entry)) (now (levels .entry))))) ⌝ }
+    requires { ⌜ DigitWidth (s .width) ⌝ }
+    requires { ⌜ s .limit ≤ maxLimit ⌝ }
+    ensures { λ r. ⌜ turned r (memory (now (nodes .entry)) (now (levels .entry))) ≡ unlessSix (both before (followsRef (s .width) s h word (memory (now (nodes .entry)) (now (levels .entry))))) s h [] (memory (now (nodes .entry)) (now (levels .entry))) (tried 0 (followWord (s .width) s h word (memory (now (nodes .entry)) (now (levels .entry))))) ⌝ }
 {
-    let w = way_back(s.levels_taken, h.level, word, levels);
+    let w = way_back(s.width, s.levels_taken, h.level, word, levels);
     if and(before, and(compares_ref(s, word, nodes), w.meets)) {
         met(s, h, more(s, h.count), w.child, word, nodes, levels)
     } else {
@@ -237,9 +241,10 @@ fn put_met(s: Settings, h: Head, word: u32, nodes: &[u32], levels: &[u32]) -> Tu
 
 // The word that Append's exchange met. H: the node is placed. Another: as a failed Append.
 fn append_met(s: Settings, h: Head, word: u32, nodes: &[u32], levels: &[u32]) -> Turned
-    requires { ⌜ s .limit ≤ 8 ⌝ }
+    requires { ⌜ DigitWidth (s .width) ⌝ }
+    requires { ⌜ s .limit ≤ maxLimit ⌝ }
     requires { ⌜ 1 ≤ h .«held_node» ⌝ }
-    ensures { λ r. ⌜ turned r (memory (now (nodes .entry)) (now (levels .entry))) ≡ exchangeTried s h [] word (memory (now (nodes .entry)) (now (levels .entry))) (endsNew s h (memory (now (nodes .entry)) (now (levels .entry)))) (followsRef 3 s h word (memory (now (nodes .entry)) (now (levels .entry)))) (followWord 3 s h word (memory (now (nodes .entry)) (now (levels .entry)))) ⌝ }
+    ensures { λ r. ⌜ turned r (memory (now (nodes .entry)) (now (levels .entry))) ≡ exchangeTried s h [] word (memory (now (nodes .entry)) (now (levels .entry))) (endsNew s h (memory (now (nodes .entry)) (now (levels .entry)))) (followsRef (s .width) s h word (memory (now (nodes .entry)) (now (levels .entry)))) (followWord (s .width) s h word (memory (now (nodes .entry)) (now (levels .entry)))) ⌝ }
 {
     if refers_to(word, h.level) {
         ends_new(s, h)
@@ -250,9 +255,10 @@ fn append_met(s: Settings, h: Head, word: u32, nodes: &[u32], levels: &[u32]) ->
 
 // The word that Close's exchange met. H: a Move to the level in hand begins. Another: as a failed Close.
 fn close_met(s: Settings, h: Head, word: u32, nodes: &[u32], levels: &[u32]) -> Turned
-    requires { ⌜ s .limit ≤ 8 ⌝ }
+    requires { ⌜ DigitWidth (s .width) ⌝ }
+    requires { ⌜ s .limit ≤ maxLimit ⌝ }
     requires { ⌜ 1 ≤ h .«held_level» ⌝ }
-    ensures { λ r. ⌜ turned r (memory (now (nodes .entry)) (now (levels .entry))) ≡ exchangeTried s h [] word (memory (now (nodes .entry)) (now (levels .entry))) (beginsMove s h [] (memory (now (nodes .entry)) (now (levels .entry)))) (followsRef 3 s h word (memory (now (nodes .entry)) (now (levels .entry)))) (followWord 3 s h word (memory (now (nodes .entry)) (now (levels .entry)))) ⌝ }
+    ensures { λ r. ⌜ turned r (memory (now (nodes .entry)) (now (levels .entry))) ≡ exchangeTried s h [] word (memory (now (nodes .entry)) (now (levels .entry))) (beginsMove s h [] (memory (now (nodes .entry)) (now (levels .entry)))) (followsRef (s .width) s h word (memory (now (nodes .entry)) (now (levels .entry)))) (followWord (s .width) s h word (memory (now (nodes .entry)) (now (levels .entry)))) ⌝ }
 {
     if refers_to(word, h.level) {
         begins_move(s, h)
@@ -264,11 +270,11 @@ fn close_met(s: Settings, h: Head, word: u32, nodes: &[u32], levels: &[u32]) -> 
 // Level: a level is taken, and in hand for Close.
 fn new_level(s: Settings, h: Head, nodes: &[u32], levels: &mut [u32]) -> Turned
     requires { ⌜ Sized s ⌝ }
-    requires { ⌜ h .«held_level» ≤ 28689 ⌝ }
-    requires { ⌜ depthAt 3 (now levels) (h .level) ≤ 6 ⌝ }
-    ensures { λ r. ⌜ turned r (memory (now (nodes .entry)) (now (levels .exit))) ≡ tried 0 (takeLevel 3 Kind.Close s h [] (memory (now (nodes .entry)) (now (levels .entry)))) ⌝ }
+    requires { ⌜ h .«held_level» ≤ mostLevels ⌝ }
+    requires { ⌜ depthAt (s .width) (now levels) (h .level) ≤ mostDepth ⌝ }
+    ensures { λ r. ⌜ turned r (memory (now (nodes .entry)) (now (levels .exit))) ≡ tried 0 (takeLevel (s .width) Kind.Close s h [] (memory (now (nodes .entry)) (now (levels .entry)))) ⌝ }
 {
-    let g = take_level(s.levels_taken, h.held_level, h.level, levels);
+    let g = take_level(s.width, s.levels_taken, h.held_level, h.level, levels);
     going(
         counted(s, h.held_level),
         holding_level(Kind::Close, g + 1, h),
@@ -284,7 +290,8 @@ fn takes(s: Settings, h: Head) -> bool
 }
 
 fn picks_with(s: Settings, h: Head, levels: &[u32]) -> bool
-    ensures { λ r. ⌜ r ≡ picksWith 3 s h (now (levels .entry)) ⌝ }
+    requires { ⌜ DigitWidth (s .width) ⌝ }
+    ensures { λ r. ⌜ r ≡ picksWith (s .width) s h (now (levels .entry)) ⌝ }
 {
     and(
         picks_in(s, h.level, levels),
@@ -312,10 +319,11 @@ impl Worker {
 
     // Look: read K's entry.
     pub fn look(self, s: Settings, nodes: &[u32], levels: &[u32]) -> Turned
-        ensures { λ r. ⌜ turned r (memory (now (nodes .entry)) (now (levels .entry))) ≡ unlessSix (looks 3 s (self .head) (memory (now (nodes .entry)) (now (levels .entry)))) s (self .head) [] (memory (now (nodes .entry)) (now (levels .entry))) (tried 0 (look 3 s (self .head) (memory (now (nodes .entry)) (now (levels .entry))))) ⌝ }
+        requires { ⌜ DigitWidth (s .width) ⌝ }
+        ensures { λ r. ⌜ turned r (memory (now (nodes .entry)) (now (levels .entry))) ≡ unlessSix (looks (s .width) s (self .head) (memory (now (nodes .entry)) (now (levels .entry)))) s (self .head) [] (memory (now (nodes .entry)) (now (levels .entry))) (tried 0 (look (s .width) s (self .head) (memory (now (nodes .entry)) (now (levels .entry))))) ⌝ }
     {
         let h = self.head;
-        let word = cell_at(entry_of(h, levels), nodes, levels);
+        let word = cell_at(s.width, entry_of(s.width, h, levels), nodes, levels);
         let before = picks_in(s, h.level, levels);
         peek_met(before, s, h, word, Kind::Take, Kind::Read)
     }
@@ -331,13 +339,13 @@ impl Worker {
     // Put: exchange the entry from H to the node.
     pub fn put(self, s: Settings, nodes: &mut [u32], levels: &mut [u32]) -> Turned
         requires { ⌜ Sized s ⌝ }
-        ensures { λ r. ⌜ turned r (memory (now (nodes .exit)) (now (levels .exit))) ≡ unlessSix (puts 3 s (self .head) (memory (now (nodes .entry)) (now (levels .entry)))) s (self .head) [] (memory (now (nodes .entry)) (now (levels .entry))) (tried 0 (put 3 s (self .head) (memory (now (nodes .entry)) (now (levels .entry))))) ⌝ }
+        ensures { λ r. ⌜ turned r (memory (now (nodes .exit)) (now (levels .exit))) ≡ unlessSix (puts (s .width) s (self .head) (memory (now (nodes .entry)) (now (levels .entry)))) s (self .head) [] (memory (now (nodes .entry)) (now (levels .entry))) (tried 0 (put (s .width) s (self .head) (memory (now (nodes .entry)) (now (levels .entry))))) ⌝ }
     {
         let h = self.head;
         if picks_with(s, h, levels) {
-            let x = entry_of(h, levels);
+            let x = entry_of(s.width, h, levels);
             let n = node_ref(h.held_node - 1);
-            let word = exchange_from(h.level, x, n, nodes, levels);
+            let word = exchange_from(s.width, h.level, x, n, nodes, levels);
             put_met(s, h, word, nodes, levels)
         } else {
             refused_six(s, h)
@@ -346,17 +354,18 @@ impl Worker {
 
     // Read: read the entry again.
     pub fn read(self, s: Settings, nodes: &[u32], levels: &[u32]) -> Turned
-        ensures { λ r. ⌜ turned r (memory (now (nodes .entry)) (now (levels .entry))) ≡ unlessSix (reads 3 s (self .head) (memory (now (nodes .entry)) (now (levels .entry)))) s (self .head) [] (memory (now (nodes .entry)) (now (levels .entry))) (tried 0 (read 3 s (self .head) (memory (now (nodes .entry)) (now (levels .entry))))) ⌝ }
+        requires { ⌜ DigitWidth (s .width) ⌝ }
+        ensures { λ r. ⌜ turned r (memory (now (nodes .entry)) (now (levels .entry))) ≡ unlessSix (reads (s .width) s (self .head) (memory (now (nodes .entry)) (now (levels .entry)))) s (self .head) [] (memory (now (nodes .entry)) (now (levels .entry))) (tried 0 (read (s .width) s (self .head) (memory (now (nodes .entry)) (now (levels .entry))))) ⌝ }
     {
         let h = self.head;
-        let word = cell_at(entry_of(h, levels), nodes, levels);
+        let word = cell_at(s.width, entry_of(s.width, h, levels), nodes, levels);
         let before = picks_in(s, h.level, levels);
         read_met(before, s, h, word, nodes, levels)
     }
 
     // Tail: read R's next.
     pub fn tail(self, s: Settings, nodes: &[u32], levels: &[u32]) -> Turned
-        ensures { λ r. ⌜ turned r (memory (now (nodes .entry)) (now (levels .entry))) ≡ unlessSix (tails s (self .head) (now (nodes .entry))) s (self .head) [] (memory (now (nodes .entry)) (now (levels .entry))) (tried 0 (tail 3 s (self .head) (memory (now (nodes .entry)) (now (levels .entry))))) ⌝ }
+        ensures { λ r. ⌜ turned r (memory (now (nodes .entry)) (now (levels .entry))) ≡ unlessSix (tails s (self .head) (now (nodes .entry))) s (self .head) [] (memory (now (nodes .entry)) (now (levels .entry))) (tried 0 (tail (s .width) s (self .head) (memory (now (nodes .entry)) (now (levels .entry))))) ⌝ }
     {
         let h = self.head;
         let k = by_count(s, h.count, Kind::TakeTail, Kind::Level, Kind::Follow);
@@ -375,12 +384,12 @@ impl Worker {
     // Append: exchange R's next from H to the node.
     pub fn append(self, s: Settings, nodes: &mut [u32], levels: &mut [u32]) -> Turned
         requires { ⌜ Sized s ⌝ }
-        ensures { λ r. ⌜ turned r (memory (now (nodes .exit)) (now (levels .exit))) ≡ unlessSix (appends 3 s (self .head) (memory (now (nodes .entry)) (now (levels .entry)))) s (self .head) [] (memory (now (nodes .entry)) (now (levels .entry))) (tried 0 (append 3 s (self .head) (memory (now (nodes .entry)) (now (levels .entry))))) ⌝ }
+        ensures { λ r. ⌜ turned r (memory (now (nodes .exit)) (now (levels .exit))) ≡ unlessSix (appends (s .width) s (self .head) (memory (now (nodes .entry)) (now (levels .entry)))) s (self .head) [] (memory (now (nodes .entry)) (now (levels .entry))) (tried 0 (append (s .width) s (self .head) (memory (now (nodes .entry)) (now (levels .entry))))) ⌝ }
     {
         let h = self.head;
         if stands_with(s, h, h.held_node, s.nodes_taken) {
             let n = node_ref(h.held_node - 1);
-            let word = exchange_from(h.level, Cell::Next(h.node), n, nodes, levels);
+            let word = exchange_from(s.width, h.level, Cell::Next(h.node), n, nodes, levels);
             append_met(s, h, word, nodes, levels)
         } else {
             refused_six(s, h)
@@ -390,7 +399,7 @@ impl Worker {
     // Level: use the spare level, else the next number.
     pub fn level(self, s: Settings, nodes: &[u32], levels: &mut [u32]) -> Turned
         requires { ⌜ Sized s ⌝ }
-        ensures { λ r. ⌜ turned r (memory (now (nodes .entry)) (now (levels .exit))) ≡ unlessSix (takesLevel 3 s (self .head) (now (levels .entry))) s (self .head) [] (memory (now (nodes .entry)) (now (levels .entry))) (tried 0 (level 3 s (self .head) (memory (now (nodes .entry)) (now (levels .entry))))) ⌝ }
+        ensures { λ r. ⌜ turned r (memory (now (nodes .entry)) (now (levels .exit))) ≡ unlessSix (takesLevel (s .width) s (self .head) (now (levels .entry))) s (self .head) [] (memory (now (nodes .entry)) (now (levels .entry))) (tried 0 (level (s .width) s (self .head) (memory (now (nodes .entry)) (now (levels .entry))))) ⌝ }
     {
         let h = self.head;
         if takes_level(s, h, levels) {
@@ -403,12 +412,12 @@ impl Worker {
     // Close: exchange R's next from H to the level in hand.
     pub fn close(self, s: Settings, nodes: &mut [u32], levels: &mut [u32]) -> Turned
         requires { ⌜ Sized s ⌝ }
-        ensures { λ r. ⌜ turned r (memory (now (nodes .exit)) (now (levels .exit))) ≡ unlessSix (closes 3 s (self .head) (memory (now (nodes .entry)) (now (levels .entry)))) s (self .head) [] (memory (now (nodes .entry)) (now (levels .entry))) (tried 0 (close 3 s (self .head) (memory (now (nodes .entry)) (now (levels .entry))))) ⌝ }
+        ensures { λ r. ⌜ turned r (memory (now (nodes .exit)) (now (levels .exit))) ≡ unlessSix (closes (s .width) s (self .head) (memory (now (nodes .entry)) (now (levels .entry)))) s (self .head) [] (memory (now (nodes .entry)) (now (levels .entry))) (tried 0 (close (s .width) s (self .head) (memory (now (nodes .entry)) (now (levels .entry))))) ⌝ }
     {
         let h = self.head;
         if stands_with(s, h, h.held_level, s.levels_taken) {
             let g = level_ref(h.held_level - 1);
-            let word = exchange_from(h.level, Cell::Next(h.node), g, nodes, levels);
+            let word = exchange_from(s.width, h.level, Cell::Next(h.node), g, nodes, levels);
             close_met(s, h, word, nodes, levels)
         } else {
             refused_six(s, h)
@@ -418,7 +427,7 @@ impl Worker {
     // Follow: read R's next again.
     pub fn follow(self, s: Settings, nodes: &[u32], levels: &[u32]) -> Turned
         requires { ⌜ Sized s ⌝ }
-        ensures { λ r. ⌜ turned r (memory (now (nodes .entry)) (now (levels .entry))) ≡ unlessSix (follows 3 s (self .head) (memory (now (nodes .entry)) (now (levels .entry)))) s (self .head) [] (memory (now (nodes .entry)) (now (levels .entry))) (tried 0 (follow 3 s (self .head) (memory (now (nodes .entry)) (now (levels .entry))))) ⌝ }
+        ensures { λ r. ⌜ turned r (memory (now (nodes .entry)) (now (levels .entry))) ≡ unlessSix (follows (s .width) s (self .head) (memory (now (nodes .entry)) (now (levels .entry)))) s (self .head) [] (memory (now (nodes .entry)) (now (levels .entry))) (tried 0 (follow (s .width) s (self .head) (memory (now (nodes .entry)) (now (levels .entry))))) ⌝ }
     {
         let h = self.head;
         let word = next_at(nodes, h.node);
@@ -428,7 +437,7 @@ impl Worker {
     // One turn of a search, by its kind. Another kind is none of a search.
     pub fn turn(self, s: Settings, nodes: &mut [u32], levels: &mut [u32]) -> Turned
         requires { ⌜ Sized s ⌝ }
-        ensures { λ r. ⌜ turned r (memory (now (nodes .exit)) (now (levels .exit))) ≡ searchTried (self .head .kind) 3 s (self .head) (memory (now (nodes .entry)) (now (levels .entry))) ⌝ }
+        ensures { λ r. ⌜ turned r (memory (now (nodes .exit)) (now (levels .exit))) ≡ searchTried (self .head .kind) (s .width) s (self .head) (memory (now (nodes .entry)) (now (levels .entry))) ⌝ }
     {
         let h = self.head;
         let k = h.kind;

@@ -114,11 +114,11 @@ pub fn alone(p: &mut Pair) -> Compared<()> {
 }
 
 // A wrong machine: the model alone, with what it does wrong. Gives after how many tables the bound found it, and a worker alone; each within its table.
-pub fn found(wrong: Chosen, seed: u64) -> [Option<u64>; 2] {
+pub fn found(wrong: Chosen, width: u32, seed: u64) -> [Option<u64>; 2] {
     let r = &mut Random::new(seed);
     let mut found = [None; 2];
     for tables in 1..=200 {
-        let mut m = Machine::fresh(r, wrong);
+        let mut m = Machine::fresh(r, wrong, width);
         for _ in 0..2000 {
             m.go_on(r);
             if found[0].is_none() && BoundSeen::default().bound(&m.model.areas, m.model.settings, m.model.exchanges).is_err() {
@@ -144,8 +144,8 @@ struct Machine {
 
 impl Machine {
     // few workers, so that the bound is near
-    fn fresh(r: &mut Random, wrong: Chosen) -> Machine {
-        let s = settings(1 + r.below(3) as u32, r.pick(&[1, 1, 2, 3]), 8 + r.below(56) as u32);
+    fn fresh(r: &mut Random, wrong: Chosen, width: u32) -> Machine {
+        let s = settings(1 + r.below(3) as u32, r.pick(&[1, 1, 2, 3]), 8 + r.below(56) as u32, width);
         let mut model = Model::new(s, sized(&s, 0, 5));
         model.open();
         Machine { model, wrong, spread: r.pick(&[2, 3, 4, 6]) }

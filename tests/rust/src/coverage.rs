@@ -1,21 +1,28 @@
-// What all sequences together reached. What they had to reach and did not fails the test.
+// What all sequences together reached, at each digit width. What they had to reach and did not fails the test.
 use crate::bound::{BoundSeen, EXCHANGES};
-use crate::model::{Areas, Kind, Kind::*, ListsSeen, Settings, KINDS, LISTS};
+use crate::model::{last_depth, Areas, Kind, Kind::*, Seen, Settings, KINDS, LISTS, WIDTHS};
 use crate::mutants::Chosen;
-use crate::pair::{Pair, OPERATIONS};
+use crate::pair::{Numbers, Pair, OPERATIONS};
+
+// The place of a width among WIDTHS; what is no width has the last one.
+pub const PLACES: usize = WIDTHS.len() + 1;
+pub fn place(width: u32) -> usize {
+    WIDTHS.iter().position(|&w| w == width).unwrap_or(WIDTHS.len())
+}
 
 #[derive(Default)]
 pub struct Total {
     pub turns: u64,
     // the wrong version that the model of every further sequence has
     pub mutant: Option<Chosen>,
-    went: [[u64; 23]; 23],
-    failed: [[u64; 23]; 23],
-    nested: [u64; 8],
-    sixes: [u64; 24],
-    failed_sixes: [u64; 23],
-    numbers: [[u64; 10]; 5],
-    lists: [ListsSeen; LISTS.len()],
+    reached: [Reached; PLACES],
+}
+
+// What was reached at one width.
+#[derive(Default)]
+struct Reached {
+    seen: Seen,
+    numbers: Numbers,
     bound: BoundSeen,
 }
 
@@ -58,12 +65,6 @@ fn follows_failed(kind: Kind) -> &'static [Kind] {
     }
 }
 
-fn add(to: &mut [u64], from: &[u64]) {
-    for (x, y) in to.iter_mut().zip(from) {
-        *x += y;
-    }
-}
-
 fn kinds(times: &[u64; 23]) -> String {
     let to: Vec<String> = (0..23).filter(|&n| times[n] > 0).map(|n| format!("{:?} {}", KINDS[n], times[n])).collect();
     to.join(", ")
@@ -79,41 +80,54 @@ impl Total {
     pub fn pair(&self, s: Settings, a: Areas, what: &str) -> Pair {
         let mut p = Pair::new(s, a, what);
         p.mutant = self.mutant;
+        if let Some(m) = self.mutant {
+            p.model.sizes = m.sizes();
+        }
         p
     }
 
     pub fn add(&mut self, p: &Pair) {
-        let s = &p.model.seen;
         self.turns += p.turns();
-        for (x, y) in self.went.iter_mut().zip(&s.went).chain(self.failed.iter_mut().zip(&s.failed)) {
-            add(x, y);
+        let here = &mut self.reached[place(p.model.settings.width)];
+        here.seen.add(&p.model.seen);
+        here.bound.add(&p.bound);
+        for (reached, more) in self.reached.iter_mut().zip(&p.numbers) {
+            for (x, y) in reached.numbers.iter_mut().flatten().zip(more.iter().flatten()) {
+                *x += y;
+            }
         }
-        add(&mut self.nested, &s.nested);
-        add(&mut self.sixes, &s.sixes);
-        add(&mut self.failed_sixes, &s.failed_sixes);
-        for (x, y) in self.numbers.iter_mut().zip(&p.numbers) {
-            add(x, y);
-        }
-        for (x, y) in self.lists.iter_mut().zip(&s.lists) {
-            x.lists += y.lists;
-            x.done += y.done;
-            x.failed += y.failed;
-        }
-        self.bound.add(&p.bound);
     }
 
     // prints the coverage and gives what was never reached, or should not have been
     pub fn report(&self) -> Vec<String> {
         let mut bad = vec![];
+        for (width, reached) in WIDTHS.into_iter().zip(&self.reached) {
+            println!("width {width}: {} turns compared", reached.seen.turns());
+            bad.extend(reached.report(width).into_iter().map(|what| format!("width {width}: {what}")));
+        }
+        println!("no width, so that every operation is refused by 1:");
+        let none = &self.reached[WIDTHS.len()];
+        none.report_numbers(&mut bad, &[&[1]; OPERATIONS.len()]);
+        if none.seen.turns() > 0 {
+            bad.push(format!("{} turns without a width", none.seen.turns()));
+        }
         println!("{} turns compared", self.turns);
+        bad
+    }
+}
+
+impl Reached {
+    fn report(&self, width: u32) -> Vec<String> {
+        let (mut bad, last, s) = (vec![], last_depth(width) as usize, &self.seen);
         self.report_kinds(&mut bad);
         self.report_failed(&mut bad);
-        println!("records that do not fit: {}; Moves open, 1 to 7: {:?}", self.sixes[23], &self.nested[1..]);
-        bad.extend((1..8).filter(|&k| self.nested[k] == 0).map(|k| format!("{k} Moves")));
-        if self.sixes[23] == 0 {
+        println!("records that do not fit: {}; Moves open, 1 to {last}: {:?}", s.sixes[23], &s.nested[1..=last]);
+        bad.extend((1..=last).filter(|&k| s.nested[k] == 0).map(|k| format!("{k} Moves")));
+        bad.extend((last + 1..s.nested.len()).filter(|&k| s.nested[k] > 0).map(|k| format!("{k} Moves, {} times", s.nested[k])));
+        if s.sixes[23] == 0 {
             bad.push("a record that does not fit".to_string());
         }
-        self.report_numbers(&mut bad);
+        self.report_numbers(&mut bad, &NUMBERS);
         self.report_exchanges();
         self.report_lists(&mut bad);
         bad.extend(self.bound.report());
@@ -122,9 +136,9 @@ impl Total {
 
     fn report_kinds(&self, bad: &mut Vec<String>) {
         for k in 1..23 {
-            println!("{:?}, then {}; 6 {} times", KINDS[k], kinds(&self.went[k]), self.sixes[k]);
-            bad.extend(otherwise(&format!("{:?}", KINDS[k]), &self.went[k], FOLLOWS[k]));
-            if self.sixes[k] == 0 {
+            println!("{:?}, then {}; 6 {} times", KINDS[k], kinds(&self.seen.went[k]), self.seen.sixes[k]);
+            bad.extend(otherwise(&format!("{:?}", KINDS[k]), &self.seen.went[k], FOLLOWS[k]));
+            if self.seen.sixes[k] == 0 {
                 bad.push(format!("6 of {:?}", KINDS[k]));
             }
         }
@@ -133,13 +147,13 @@ impl Total {
     fn report_failed(&self, bad: &mut Vec<String>) {
         for k in 1..23 {
             let (name, follows) = (format!("failed {:?}", KINDS[k]), follows_failed(KINDS[k]));
-            let times: u64 = self.failed[k].iter().sum();
+            let times: u64 = self.seen.failed[k].iter().sum();
             if !follows.is_empty() {
-                println!("{name} {times} times, then {}; 6 by the word met {} times", kinds(&self.failed[k]), self.failed_sixes[k]);
+                println!("{name} {times} times, then {}; 6 by the word met {} times", kinds(&self.seen.failed[k]), self.seen.failed_sixes[k]);
             }
-            bad.extend(otherwise(&name, &self.failed[k], follows));
-            if follows.is_empty() != (self.failed_sixes[k] == 0) {
-                bad.push(format!("6 by the word met of {name}, {} times", self.failed_sixes[k]));
+            bad.extend(otherwise(&name, &self.seen.failed[k], follows));
+            if follows.is_empty() != (self.seen.failed_sixes[k] == 0) {
+                bad.push(format!("6 by the word met of {name}, {} times", self.seen.failed_sixes[k]));
             }
         }
     }
@@ -147,13 +161,14 @@ impl Total {
     // that each kind was done and has failed is asked of what follows it, above
     fn report_exchanges(&self) {
         let times = |of: &[[u64; 23]; 23], k: Kind| of[k as usize].iter().sum::<u64>();
-        let kinds: Vec<String> = EXCHANGES.iter().map(|&k| format!("{k:?} {} and {}", times(&self.went, k), times(&self.failed, k))).collect();
+        let kinds: Vec<String> =
+            EXCHANGES.iter().map(|&k| format!("{k:?} {} and {}", times(&self.seen.went, k), times(&self.seen.failed, k))).collect();
         let all = |of| EXCHANGES.iter().map(|&k| times(of, k)).sum::<u64>();
-        println!("exchanges done and failed: {} and {}; {}", all(&self.went), all(&self.failed), kinds.join(", "));
+        println!("exchanges done and failed: {} and {}; {}", all(&self.seen.went), all(&self.seen.failed), kinds.join(", "));
     }
 
     fn report_lists(&self, bad: &mut Vec<String>) {
-        for (k, (name, seen)) in LISTS.iter().zip(self.lists).enumerate() {
+        for (k, (name, seen)) in LISTS.iter().zip(self.seen.lists).enumerate() {
             println!("lists {name}: {}, with exchanges done {}, with failed ones {}", seen.lists, seen.done, seen.failed);
             // a refused list has none of either
             let told = |n: u64| (n == 0) == (k == 0);
@@ -163,13 +178,13 @@ impl Total {
         }
     }
 
-    fn report_numbers(&self, bad: &mut Vec<String>) {
+    fn report_numbers(&self, bad: &mut Vec<String>, may_give: &[&[usize]; OPERATIONS.len()]) {
         for (op, name) in OPERATIONS.iter().enumerate() {
             let given = &self.numbers[op];
             let text: Vec<String> = (0..10).filter(|&n| given[n] > 0).map(|n| format!("{n} {} times", given[n])).collect();
             println!("{name} gave {}", text.join(", "));
             for n in 0..10 {
-                if NUMBERS[op].contains(&n) != (given[n] > 0) {
+                if may_give[op].contains(&n) != (given[n] > 0) {
                     bad.push(format!("number {n} of {name}, {} times", given[n]));
                 }
             }

@@ -1,22 +1,22 @@
 // What a list of turns reports of its exchanges: "A list of turns reports both numbers for its own turns, equal to a count over the turns' definition."
 // Races that reach the bound, every way in which a list ends, and sequences cut into lists in several ways. Relies on sequences.rs for fresh tables.
 use crate::coverage::Total;
-use crate::model::{Exchanges, FOUND, NEW};
+use crate::model::{self, Exchanges, FOUND, NEW};
 use crate::pair::{Compared, Op, Pair};
 use crate::random::Random;
-use crate::sequences::{clustered, opened, settings, whole};
+use crate::sequences::{clustered, opened, pixel, settings, start, whole};
 use crate::words::{Place, LEVEL, RECORD};
 
-pub fn all(seed: u64, total: &mut Total) -> Compared<()> {
+pub fn all(width: u32, seed: u64, total: &mut Total) -> Compared<()> {
     for workers in 1..=16 {
-        race(total, workers)?;
+        race(width, total, workers)?;
     }
-    ends(total)?;
-    full(total)?;
-    many(total)?;
+    ends(width, total)?;
+    full(width, total)?;
+    many(width, total)?;
     let r = &mut Random::new(seed);
-    for _ in 0..30 {
-        cut(r.next(), total)?;
+    for _ in 0..15 {
+        cut(width, r.next(), total)?;
     }
     Ok(())
 }
@@ -28,18 +28,23 @@ fn gives(p: &mut Pair, list: &[u8], limit: u32, number: u32, turns: u32, done: u
     Ok(())
 }
 
+// the root's entries, but no more than eight
+fn some_entries(width: u32) -> u32 {
+    model::entries(width).min(8)
+}
+
 // All look, all take, all put: one exchange is done, the others fail, as many as can. So for one pixel of each of the root's entries, the Puts in one list
 // and in two by turns: after the first Put all the others are doomed.
-fn race(total: &mut Total, workers: u32) -> Compared<()> {
-    let mut p = opened(total, settings(workers, 4, 32), 0, 7, &format!("a race of {workers}"))?;
+fn race(width: u32, total: &mut Total, workers: u32) -> Compared<()> {
+    let mut p = opened(total, settings(workers, 4, 32, width), 0, 7, &format!("a race of {workers}, width {width}"))?;
     let each: Vec<u8> = (0..workers as u8).collect();
-    for pixel in 0..8 {
+    for entry in 0..some_entries(width) {
         for i in 0..workers {
-            p.run(Op::Start(i, 512 * pixel, 0))?;
+            p.run(start(i, entry * model::divisor(width, 0)))?;
         }
         gives(&mut p, &each, 99, 0, workers, 0, 0)?;
         gives(&mut p, &each, 99, 0, workers, 0, 0)?;
-        if pixel % 2 == 0 {
+        if entry % 2 == 0 {
             gives(&mut p, &each, 99, 0, workers, 1, workers - 1)?;
         } else {
             gives(&mut p, &each, 1, 0, 1, 1, 0)?;
@@ -49,15 +54,15 @@ fn race(total: &mut Total, workers: u32) -> Compared<()> {
             assert_eq!(p.run(Op::Last(i))?.answer, if i == 0 { NEW } else { FOUND });
         }
         gives(&mut p, &[0, workers as u8], 99, 4, 0, 0, 0)?;
-        assert_eq!(p.model.exchanges, Exchanges { done: pixel + 1, failed: (workers - 1) * (pixel + 1) });
+        assert_eq!(p.model.exchanges, Exchanges { done: entry + 1, failed: (workers - 1) * (entry + 1) });
     }
     total.add(&p);
     Ok(())
 }
 
 // Three workers before their Puts for one pixel, a fourth without a call: lists that end at their end, by the limit, by a 6 of each sort, and refused ones.
-fn ends(total: &mut Total) -> Compared<()> {
-    let mut before = opened(total, settings(4, 4, 8), 0, 7, "ends of lists")?;
+fn ends(width: u32, total: &mut Total) -> Compared<()> {
+    let mut before = opened(total, settings(4, 4, 8, width), 0, 7, &format!("ends of lists, width {width}"))?;
     for i in 0..3 {
         before.run(Op::Start(i, 0, 0))?;
     }
@@ -100,36 +105,40 @@ fn ends(total: &mut Total) -> Compared<()> {
 }
 
 // A list goes on after "full", which makes no exchange: of two nodes worker 0 places one, worker 1's Put fails and its node is spare.
-fn full(total: &mut Total) -> Compared<()> {
-    let mut p = opened(total, settings(3, 4, 2), 0, 7, "full in a list")?;
+fn full(width: u32, total: &mut Total) -> Compared<()> {
+    let mut p = opened(total, settings(3, 4, 2, width), 0, 7, &format!("full in a list, width {width}"))?;
     for i in 0..3 {
         p.run(Op::Start(i, 0, 0))?;
     }
     gives(&mut p, &[0, 1, 2, 0, 1, 2, 0, 1, 2], 99, 0, 8, 1, 1)?;
     // worker 2 is full at Take, worker 0 at TakeTail; worker 1 has its spare
-    for (i, row) in [(0, 64), (1, 128), (2, 512)] {
-        p.run(Op::Start(i, row, 0))?;
+    for (i, digits) in [(0, "01"), (1, "02"), (2, "1")] {
+        p.run(start(i, pixel(width, digits)))?;
     }
     gives(&mut p, &[2, 2, 0, 1, 0, 1, 0, 1, 0, 1, 1], 99, 0, 11, 1, 0)?;
     total.add(&p);
     Ok(())
 }
 
-// Eight chains of eight nodes, one in each entry of the root, whose pixels differ in the last digit alone; in each a ninth pixel differs in the digit before
-// it. Its call closes the chain at depths 0 to 5, each time with one exchange for the level and eight for the nodes, and puts its node: 55 exchanges.
-fn many(total: &mut Total) -> Compared<()> {
-    let mut p = opened(total, settings(8, 8, 72), 0, 7, "many exchanges in a list")?;
-    for pixel in (0..64).map(|k| ((k / 8) << 21) | (k % 8)) {
+// Eight full chains of eight nodes, at width 2 four of four, one in each entry of the root, whose pixels differ in the last digit alone; in each a further
+// pixel differs in the digit before it. Its call closes the chain at every depth but the last two, each time with one exchange for the level and one for each
+// node, and puts its node: 55 exchanges at width 3.
+fn many(width: u32, total: &mut Total) -> Compared<()> {
+    let (n, last) = (some_entries(width), model::last_depth(width));
+    let mut p = opened(total, settings(n, n, n * (n + 1), width), 0, 7, &format!("many exchanges in a list, width {width}"))?;
+    let root = |entry: u32| entry * model::divisor(width, 0);
+    for pixel in (0..n * n).map(|k| root(k / n) + k % n) {
         assert_eq!(whole(&mut p, 0, pixel)?.0, NEW);
     }
     let already = p.model.exchanges;
-    for i in 0..8 {
-        p.run(Op::Start(i, i << 9, 0o10))?;
+    for i in 0..n {
+        p.run(start(i, root(i) + model::divisor(width, last - 1)))?;
     }
-    let list: Vec<u8> = (0..8 * 2000).map(|k| k as u8 % 8).collect();
+    let list: Vec<u8> = (0..n * 2000).map(|k| (k % n) as u8).collect();
     let q = p.run(Op::Turns(list, u32::MAX))?;
-    assert_eq!((already, q.number, q.exchanges), (Exchanges { done: 64, failed: 0 }, 0, Exchanges { done: 8 * 55, failed: 0 }));
-    assert!((0..8).all(|i| p.table.areas.workers[RECORD * i] == 0), "every call has ended");
+    let of_a_call = (last - 1) * (n + 1) + 1;
+    assert_eq!((already, q.number, q.exchanges), (Exchanges { done: n * n, failed: 0 }, 0, Exchanges { done: n * of_a_call, failed: 0 }));
+    assert!((0..n as usize).all(|i| p.table.areas.workers[RECORD * i] == 0), "every call has ended");
     total.add(&p);
     Ok(())
 }
@@ -141,11 +150,11 @@ enum Event {
 }
 
 // The same sequence turn by turn and in lists of any length and limit: the same table, and of all lists together the exchanges of all turns.
-pub fn cut(seed: u64, total: &mut Total) -> Compared<()> {
+pub fn cut(width: u32, seed: u64, total: &mut Total) -> Compared<()> {
     let r = &mut Random::new(seed);
-    let s = settings(1 + r.below(16) as u32, r.pick(&[1, 1, 2, 3, 8]), 1 + r.below(48) as u32);
+    let s = settings(1 + r.below(16) as u32, r.pick(&[1, 1, 2, 3, 8]), 1 + r.below(48) as u32, width);
     let spread = r.pick(&[2, 3, 4, 6]);
-    let mut single = opened(total, s, 0, 7, &format!("cut {seed}, turn by turn"))?;
+    let mut single = opened(total, s, 0, 7, &format!("cut {seed} {width}, turn by turn"))?;
     let mut events = vec![];
     for _ in 0..800 {
         let worker = r.below(s.workers as u64) as u32;
@@ -159,7 +168,7 @@ pub fn cut(seed: u64, total: &mut Total) -> Compared<()> {
     }
     total.add(&single);
     for longest in [1, 3, 12, 200] {
-        let mut p = opened(total, s, 0, 7, &format!("cut {seed}, lists up to {longest}"))?;
+        let mut p = opened(total, s, 0, 7, &format!("cut {seed} {width}, lists up to {longest}"))?;
         let reported = in_lists(r, &mut p, &events, longest)?;
         assert_eq!(reported, single.model.exchanges, "{}", p.what);
         assert!(p.table.areas == single.table.areas && p.table.settings == single.table.settings, "{}: another table", p.what);

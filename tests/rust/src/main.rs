@@ -1,10 +1,10 @@
-// Compares the table with a model coded apart, after every operation: reply, settings and every word of the areas; and what the text program prints
-// with a text program coded apart. What was never reached fails.
-//   leafdrum_tests [SEED [TURNS]]                      everything
-//   leafdrum_tests mutants [SEED]                      the wrong versions of the model alone
-//   leafdrum_tests orders|large|spoiled|six|cut SEED   one random sequence again, as a difference names it
-//   leafdrum_tests program [SEED [TEXTS]]              the text program alone
-//   leafdrum_tests text SEED                           one random text again, as a difference names it
+// Compares the table with a model coded apart, at each digit width and after every operation: reply, settings and every word of the areas; and what the text
+// program prints with a text program coded apart. What was never reached fails.
+//   leafdrum_tests [SEED [TURNS]]                            everything
+//   leafdrum_tests mutants [SEED]                            the wrong versions of the model alone
+//   leafdrum_tests orders|large|spoiled|six|cut SEED WIDTH   one random sequence again, as a difference names it
+//   leafdrum_tests program [SEED [TEXTS]]                    the text program alone
+//   leafdrum_tests text SEED                                 one random text again, as a difference names it
 mod bound;
 mod coverage;
 mod examples;
@@ -26,6 +26,7 @@ mod text_mutants;
 mod texts;
 mod words;
 use coverage::Total;
+use model::WIDTHS;
 use pair::Compared;
 use random::Random;
 
@@ -35,20 +36,27 @@ const TEXTS: u64 = 2_000;
 fn everything(seed: u64, turns: u64) -> Compared<Vec<String>> {
     let mut total = Total::default();
     let r = &mut Random::new(seed);
-    examples::all(&mut total)?;
-    exchanges::all(&mut total)?;
-    lists::all(seed, &mut total)?;
-    refusals::all(seed, &mut total)?;
-    sequences::written(&mut total)?;
+    examples::level_counts();
+    refusals::level_counts();
+    for width in WIDTHS {
+        examples::all(width, &mut total)?;
+        exchanges::all(width, &mut total)?;
+        lists::all(width, seed, &mut total)?;
+        refusals::all(width, seed, &mut total)?;
+        sequences::written(width, &mut total)?;
+        sequences::reopened(width, seed, &mut total)?;
+    }
     let mut missing = six::aimed(seed, &mut total)?;
     // once at least
     loop {
-        for _ in 0..20 {
-            sequences::orders(r.next(), &mut total)?;
-        }
-        sequences::large(r.next(), &mut total)?;
-        for _ in 0..40 {
-            sequences::spoiled(r.next(), &mut total)?;
+        for width in WIDTHS {
+            for _ in 0..10 {
+                sequences::orders(width, r.next(), &mut total)?;
+            }
+            sequences::large(width, r.next(), &mut total)?;
+            for _ in 0..20 {
+                sequences::spoiled(width, r.next(), &mut total)?;
+            }
         }
         if total.turns >= turns {
             break;
@@ -60,8 +68,9 @@ fn everything(seed: u64, turns: u64) -> Compared<Vec<String>> {
     Ok(missing)
 }
 
-fn one(run: fn(u64, &mut Total) -> Compared<()>, seed: u64) -> Compared<Vec<String>> {
-    run(seed, &mut Total::default())?;
+fn one<T>(run: fn(u32, u64, &mut Total) -> Compared<T>, width: u64, seed: u64) -> Compared<Vec<String>> {
+    let width = WIDTHS.into_iter().find(|&w| w as u64 == width).expect("a width");
+    run(width, seed, &mut Total::default())?;
     Ok(vec![])
 }
 
@@ -70,13 +79,13 @@ fn main() {
     let number = |k: usize, otherwise: u64| args.get(k).map_or(otherwise, |a| a.parse().expect("a number"));
     let result = match args.first().map(String::as_str) {
         Some("mutants") => Ok(mutants::missed(number(1, SEED))),
-        Some("orders") => one(sequences::orders, number(1, SEED)),
-        Some("large") => one(sequences::large, number(1, SEED)),
-        Some("cut") => one(lists::cut, number(1, SEED)),
-        Some("six") => six::aimed(number(1, SEED), &mut Total::default()),
+        Some("orders") => one(sequences::orders, number(2, 3), number(1, SEED)),
+        Some("large") => one(sequences::large, number(2, 3), number(1, SEED)),
+        Some("cut") => one(lists::cut, number(2, 3), number(1, SEED)),
+        Some("six") => one(six::one_width, number(2, 3), number(1, SEED)),
         Some("program") => program::all(number(1, SEED), number(2, TEXTS)),
         Some("text") => program::one(number(1, SEED)),
-        Some("spoiled") => one(sequences::spoiled, number(1, SEED)),
+        Some("spoiled") => one(sequences::spoiled, number(2, 3), number(1, SEED)),
         _ => {
             println!("seed {}", number(0, SEED));
             everything(number(0, SEED), number(1, 1_000_000))

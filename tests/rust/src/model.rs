@@ -1,10 +1,12 @@
-// A model of the table coded apart, from document 01, document 02's requests 05 and 10 and docs/LAYOUT.md. Nodes and levels are records of any 32-bit values;
-// a worker is a type of its own, read from its words before an operation and written back after it. Nothing here is taken from the Rattle code.
+// A model of the table coded apart, from document 01, document 02's requests 05, 08 and 10 and docs/LAYOUT.md. Nodes and levels are words of any value; a
+// worker is a type of its own, read from its words before an operation and written back after it. Nothing here is taken from the Rattle code.
 
 use crate::pair::Op;
 
 pub const NONE: u32 = u32::MAX;
 const MAX_PIXEL: u32 = (1 << 24) - 1;
+// the greatest chain limit, so the most nodes that a Move remembers
+const LONGEST_CHAIN: usize = 8;
 
 #[derive(Clone, Copy, Debug, PartialEq, Eq)]
 pub struct Settings {
@@ -13,7 +15,81 @@ pub struct Settings {
     pub nodes: u32,
     pub nodes_taken: u32,
     pub levels_taken: u32,
+    // of a digit, in bits
+    pub width: u32,
 }
+
+impl Settings {
+    // but for the width
+    pub fn in_range(&self) -> bool {
+        (1..=16).contains(&self.workers) && (1..=LONGEST_CHAIN as u32).contains(&self.limit) && (1..=4096).contains(&self.nodes)
+    }
+}
+
+// What document 02 fixes for each digit width, one place for each number.
+pub const WIDTHS: [u32; 4] = [2, 3, 4, 6];
+// "A worker has 256 words", at every width
+pub const WORKER_WORDS: usize = 256;
+
+// "depths run to 24 / width − 1, and that number replaces 7"
+pub fn last_depth(width: u32) -> u32 {
+    24 / width - 1
+}
+pub fn entries(width: u32) -> u32 {
+    1 << width
+}
+// "A level has 2 + 2^width words"
+pub fn level_words(width: u32) -> usize {
+    2 + entries(width) as usize
+}
+// past the last depth that of the last digit
+pub fn divisor(width: u32, depth: u32) -> u32 {
+    1 << 24u32.saturating_sub(width * (depth + 1))
+}
+pub fn digit(width: u32, depth: u32, pixel: u32) -> u32 {
+    pixel / divisor(width, depth) % entries(width)
+}
+pub fn level_count(s: &Settings) -> u64 {
+    levels(s, last_depth(s.width))
+}
+// "1 + 7 × floor(nodes / chain limit) + workers levels", with another number for 7
+pub fn levels(s: &Settings, seven: u32) -> u64 {
+    1 + seven as u64 * (s.nodes as u64 / s.limit as u64) + s.workers as u64
+}
+
+// What the model does with the width; a wrong version is one of these changed.
+#[derive(Clone, Copy)]
+pub struct Sizes {
+    pub accepted: fn(u32) -> bool,
+    pub worker_words: usize,
+    pub level_words: fn(u32) -> usize,
+    // the entries that are written where a level is filled
+    pub filled: fn(u32) -> u32,
+    pub level_count: fn(&Settings) -> u64,
+    pub digit: fn(u32, u32, u32) -> u32,
+    // the greatest depth at which an entry is picked, and that of a new level
+    pub deepest: fn(u32) -> u32,
+    pub deepest_new: fn(u32) -> u32,
+    // previous words read in going back
+    pub most_back: fn(u32) -> u32,
+    // Moves one inside another, in a record that fits and where one more would begin
+    pub most_moves: fn(u32) -> u32,
+    pub room_for_moves: fn(u32) -> u32,
+}
+
+pub const DOCUMENT: Sizes = Sizes {
+    accepted: |width| WIDTHS.contains(&width),
+    worker_words: WORKER_WORDS,
+    level_words,
+    filled: entries,
+    level_count,
+    digit,
+    deepest: last_depth,
+    deepest_new: last_depth,
+    most_back: last_depth,
+    most_moves: last_depth,
+    room_for_moves: last_depth,
+};
 
 #[derive(Clone, Copy, Debug, PartialEq, Eq)]
 pub struct Reply {
@@ -52,13 +128,6 @@ pub struct Node {
     pub next: u32,
 }
 
-#[derive(Clone, Copy, Debug, PartialEq, Eq)]
-pub struct Level {
-    pub previous: u32,
-    pub depth: u32,
-    pub entries: [u32; 8],
-}
-
 // The three areas as they are lent, excess words included.
 #[derive(Clone, Debug, PartialEq, Eq)]
 pub struct Areas {
@@ -83,18 +152,6 @@ impl Areas {
         self.nodes[k] = n.pixel;
         self.nodes[k + 1] = n.next;
     }
-    fn level(&self, g: u32) -> Level {
-        let k = 10 * g as usize;
-        let mut entries = [0; 8];
-        entries.copy_from_slice(&self.levels[k + 2..k + 10]);
-        Level { previous: self.levels[k], depth: self.levels[k + 1], entries }
-    }
-    fn set_level(&mut self, g: u32, l: Level) {
-        let k = 10 * g as usize;
-        self.levels[k] = l.previous;
-        self.levels[k + 1] = l.depth;
-        self.levels[k + 2..k + 10].copy_from_slice(&l.entries);
-    }
 }
 
 #[derive(Clone, Copy, Debug, PartialEq, Eq)]
@@ -109,10 +166,6 @@ fn reference(word: u32) -> Ref {
     } else {
         Ref::Level(word >> 1)
     }
-}
-
-pub fn level_count(s: &Settings) -> u64 {
-    1 + 7 * (s.nodes as u64 / s.limit as u64) + s.workers as u64
 }
 
 // The kinds of turn, by their number in docs/LAYOUT.md.
@@ -156,7 +209,7 @@ pub struct Chain {
     pub home: u32,
     pub child: u32,
     pub count: u32,
-    pub nodes: [u32; 8],
+    pub nodes: [u32; LONGEST_CHAIN],
 }
 
 impl Chain {
@@ -194,13 +247,16 @@ enum Exchanged {
     Met(u32),
 }
 
+// counts of Moves open: none, up to as many as any width has, and one more, which only a wrong version comes to
+pub const NESTED: usize = 13;
+
 // What was seen, for coverage: turns by their kind and the one after it, those whose exchange failed apart; Moves open; 6 by kind (23: the record
 // does not fit), and how many of these by the word that a failed exchange met.
 #[derive(Clone, Debug, Default)]
 pub struct Seen {
     pub went: [[u64; 23]; 23],
     pub failed: [[u64; 23]; 23],
-    pub nested: [u64; 8],
+    pub nested: [u64; NESTED],
     pub sixes: [u64; 24],
     pub failed_sixes: [u64; 23],
     pub lists: [ListsSeen; LISTS.len()],
@@ -222,12 +278,30 @@ impl Seen {
     pub fn turns(&self) -> u64 {
         self.went.iter().chain(&self.failed).flatten().sum()
     }
+
+    pub fn add(&mut self, more: &Seen) {
+        fn add(to: &mut [u64], from: &[u64]) {
+            to.iter_mut().zip(from).for_each(|(x, y)| *x += y);
+        }
+        for (x, y) in self.went.iter_mut().zip(&more.went).chain(self.failed.iter_mut().zip(&more.failed)) {
+            add(x, y);
+        }
+        add(&mut self.nested, &more.nested);
+        add(&mut self.sixes, &more.sixes);
+        add(&mut self.failed_sixes, &more.failed_sixes);
+        for (x, y) in self.lists.iter_mut().zip(&more.lists) {
+            x.lists += y.lists;
+            x.done += y.done;
+            x.failed += y.failed;
+        }
+    }
 }
 
 #[derive(Clone)]
 pub struct Model {
     pub settings: Settings,
     pub areas: Areas,
+    pub sizes: Sizes,
     pub seen: Seen,
     // of all turns since the newest opening
     pub exchanges: Exchanges,
@@ -249,7 +323,7 @@ fn yes(b: bool) -> Asked<()> {
 
 impl Model {
     pub fn new(settings: Settings, areas: Areas) -> Model {
-        Model { settings, areas, seen: Seen::default(), exchanges: Exchanges::default(), exchanged: None, withheld: false }
+        Model { settings, areas, sizes: DOCUMENT, seen: Seen::default(), exchanges: Exchanges::default(), exchanged: None, withheld: false }
     }
 
     // the word that the newest turn's exchange met, if it failed
@@ -278,15 +352,15 @@ impl Model {
         }
     }
 
-    // questions 1 and 2
-    fn sizes(&self) -> Asked<()> {
+    // questions 1 and 2; nothing is reckoned with a width, or divided by a limit, that question 1 has not passed
+    fn room(&self) -> Asked<()> {
         let s = &self.settings;
-        if !(1..=16).contains(&s.workers) || !(1..=8).contains(&s.limit) || !(1..=4096).contains(&s.nodes) {
+        if !s.in_range() || !(self.sizes.accepted)(s.width) {
             return Err(1);
         }
         let short = (self.areas.nodes.len() as u64) < 2 * s.nodes as u64
-            || (self.areas.levels.len() as u64) < 10 * level_count(s)
-            || (self.areas.workers.len() as u64) < 128 * s.workers as u64;
+            || (self.areas.levels.len() as u64) < self.level_words() as u64 * self.level_count()
+            || self.areas.workers.len() < self.sizes.worker_words * s.workers as usize;
         if short {
             Err(2)
         } else {
@@ -296,30 +370,61 @@ impl Model {
 
     // questions 1 to 3
     fn counts(&self) -> Asked<()> {
-        self.sizes()?;
+        self.room()?;
         let s = &self.settings;
-        if s.nodes_taken > s.nodes || s.levels_taken < 1 || s.levels_taken as u64 > level_count(s) {
+        if s.nodes_taken > s.nodes || s.levels_taken < 1 || s.levels_taken as u64 > self.level_count() {
             return Err(3);
         }
         Ok(())
     }
 
     pub fn open(&mut self) -> Reply {
-        if let Err(n) = self.sizes() {
+        if let Err(n) = self.room() {
             return self.refuse(n);
         }
         self.settings.nodes_taken = 0;
         self.settings.levels_taken = 1;
-        self.areas.set_level(0, Level { previous: NONE, depth: 0, entries: [0; 8] });
-        let words = 128 * self.settings.workers as usize;
+        self.fill_level(0, NONE, 0);
+        let words = self.sizes.worker_words * self.settings.workers as usize;
         self.areas.workers[..words].fill(0);
         self.exchanges = Exchanges::default();
         self.reply(0, NOTHING, 0)
     }
 
+    fn level_words(&self) -> usize {
+        (self.sizes.level_words)(self.settings.width)
+    }
+    fn level_count(&self) -> u64 {
+        (self.sizes.level_count)(&self.settings)
+    }
+    fn previous(&self, g: u32) -> u32 {
+        self.areas.levels[self.level_words() * g as usize]
+    }
+    fn depth(&self, g: u32) -> u32 {
+        self.areas.levels[self.level_words() * g as usize + 1]
+    }
+    // entry e of level g
+    fn cell(&mut self, g: u32, e: usize) -> &mut u32 {
+        let k = self.level_words() * g as usize + 2 + e;
+        &mut self.areas.levels[k]
+    }
+    // "An empty entry refers to its own level"
+    fn fill_level(&mut self, g: u32, previous: u32, depth: u32) {
+        let k = self.level_words() * g as usize;
+        self.areas.levels[k] = previous;
+        self.areas.levels[k + 1] = depth;
+        let filled = (self.sizes.filled)(self.settings.width) as usize;
+        self.areas.levels[k + 2..k + 2 + filled].fill(2 * g);
+    }
+
+    // the words of worker i's record
+    fn record(&self, i: u32) -> std::ops::Range<usize> {
+        let words = self.sizes.worker_words;
+        words * i as usize..words * (i as usize + 1)
+    }
     // the record of worker i, if it fits its layout
     fn worker(&self, i: u32) -> Asked<Worker> {
-        let w = &self.areas.workers[128 * i as usize..128 * i as usize + 128];
+        let w = &self.areas.workers[self.record(i)];
         yes(w[0] <= 22)?;
         let kind = KINDS[w[0] as usize];
         let limit = self.settings.limit;
@@ -347,13 +452,13 @@ impl Model {
             yes(w[9] == 0)?;
             return Ok(r);
         }
-        yes(w[9] >= 1 && w[9] <= 7)?;
+        yes(w[9] >= 1 && w[9] <= (self.sizes.most_moves)(self.settings.width))?;
         for j in 0..w[9] as usize {
             let m = &w[16 + 11 * j..27 + 11 * j];
             let innermost = j + 1 == w[9] as usize;
             let none = innermost && matches!(kind, Kind::ChainHead | Kind::MoveEnd);
             yes(if none { m[2] == 0 } else { m[2] >= 1 && m[2] <= limit })?;
-            let mut nodes = [0; 8];
+            let mut nodes = [0; LONGEST_CHAIN];
             nodes.copy_from_slice(&m[3..11]);
             r.moves.push(Chain { home: m[0], child: m[1], count: m[2], nodes });
         }
@@ -361,7 +466,8 @@ impl Model {
     }
 
     fn keep(&mut self, i: u32, r: &Worker) {
-        let w = &mut self.areas.workers[128 * i as usize..128 * i as usize + 128];
+        let words = self.record(i);
+        let w = &mut self.areas.workers[words];
         let head = [r.kind as u32, r.pixel, r.level, r.node, r.count, r.held_node, r.held_level, r.answer, r.answer_node, r.moves.len() as u32];
         w[..10].copy_from_slice(&head);
         for (j, m) in r.moves.iter().enumerate() {
@@ -532,9 +638,9 @@ impl Model {
     // where pixel p, which is in range, goes in level g, which is taken and not too deep
     fn entry(&self, g: u32, p: u32) -> Asked<usize> {
         self.level_taken(g)?;
-        let d = self.areas.level(g).depth;
-        yes(d <= 7)?;
-        Ok((p >> (3 * (7 - d)) & 7) as usize)
+        let (depth, width) = (self.depth(g), self.settings.width);
+        yes(depth <= (self.sizes.deepest)(width))?;
+        Ok((self.sizes.digit)(width, depth, p) as usize)
     }
     fn taken(&self, word: u32) -> Asked<Ref> {
         match reference(word) {
@@ -552,8 +658,8 @@ impl Model {
     // from level t back to the child of g
     fn back(&self, t: u32, g: u32) -> Asked<u32> {
         let mut at = t;
-        for _ in 0..7 {
-            let p = self.areas.level(at).previous;
+        for _ in 0..(self.sizes.most_back)(self.settings.width) {
+            let p = self.previous(at);
             if p == g {
                 return Ok(at);
             }
@@ -570,16 +676,16 @@ impl Model {
     fn new_level(&mut self, r: &mut Worker) -> Asked<()> {
         self.level_taken(r.level)?;
         yes(r.held_level <= self.settings.levels_taken)?;
-        let depth = self.areas.level(r.level).depth;
-        yes(depth <= 6)?;
+        let depth = self.depth(r.level);
+        yes(depth < (self.sizes.deepest_new)(self.settings.width))?;
         let g = if r.held_level > 0 {
             r.held_level - 1
         } else {
-            yes((self.settings.levels_taken as u64) < level_count(&self.settings))?;
+            yes((self.settings.levels_taken as u64) < self.level_count())?;
             self.settings.levels_taken += 1;
             self.settings.levels_taken - 1
         };
-        self.areas.set_level(g, Level { previous: r.level, depth: depth + 1, entries: [2 * g; 8] });
+        self.fill_level(g, r.level, depth + 1);
         r.held_level = g + 1;
         Ok(())
     }
@@ -604,7 +710,7 @@ impl Model {
     // ""Exchange x from a to b" writes b only if x holds a"; "The new board's exchange returns what it found"
     fn exchange(&mut self, x: Cell, from: u32, to: u32) -> Exchanged {
         let word = match x {
-            Cell::Entry(g, e) => &mut self.areas.levels[10 * g as usize + 2 + e],
+            Cell::Entry(g, e) => self.cell(g, e),
             Cell::Next(n) => &mut self.areas.nodes[2 * n as usize + 1],
         };
         let came_to = if *word == from { Exchanged::Done } else { Exchanged::Met(*word) };
@@ -615,8 +721,8 @@ impl Model {
         came_to
     }
 
-    // With seven Moves open R's next is only read. A word that would let the exchange be done, so that an eighth Move began, is refused; on another word it
-    // has failed, and counts as failed. No sequence from an opening comes here.
+    // With as many Moves open as there may be R's next is only read. A word that would let the exchange be done, so that one more Move began, is refused; on
+    // another word it has failed, and counts as failed. No sequence from an opening comes here.
     fn without_room(&mut self, r: &Worker) -> Asked<Exchanged> {
         let word = self.areas.node(r.node).next;
         self.withheld = word == 2 * r.level;
@@ -729,7 +835,7 @@ impl Model {
             Idle => unreachable!(),
             Look => {
                 let e = self.entry(r.level, r.pixel)?;
-                let word = self.areas.level(r.level).entries[e];
+                let word = *self.cell(r.level, e);
                 self.taken(word)?;
                 r.kind = if word == 2 * r.level { Take } else { Read };
             }
@@ -761,7 +867,7 @@ impl Model {
             }
             Read => {
                 let e = self.entry(r.level, r.pixel)?;
-                let word = self.areas.level(r.level).entries[e];
+                let word = *self.cell(r.level, e);
                 return self.as_read(r, word);
             }
             Follow => {
@@ -796,12 +902,13 @@ impl Model {
                 self.level_taken(r.level)?;
                 self.node_taken(r.node)?;
                 let g = self.held(r.held_level, self.settings.levels_taken)?;
-                let exchanged = if r.moves.len() < 7 { self.exchange(Cell::Next(r.node), 2 * r.level, 2 * g) } else { self.without_room(&r)? };
+                let room = r.moves.len() < (self.sizes.room_for_moves)(self.settings.width) as usize;
+                let exchanged = if room { self.exchange(Cell::Next(r.node), 2 * r.level, 2 * g) } else { self.without_room(&r)? };
                 match exchanged {
                     Exchanged::Done => {
                         r.held_level = 0;
                         r.kind = ChainHead;
-                        r.moves.push(Chain { home: r.level, child: g, count: 0, nodes: [0; 8] });
+                        r.moves.push(Chain { home: r.level, child: g, count: 0, nodes: [0; LONGEST_CHAIN] });
                     }
                     Exchanged::Met(word) if kind == Close => return self.as_follow(r, word),
                     Exchanged::Met(word) => self.as_set_follow(&mut r, word)?,
@@ -811,7 +918,7 @@ impl Model {
                 let key = self.key(&r)?;
                 let home = r.moves.last().unwrap().home;
                 let e = self.entry(home, key)?;
-                let word = self.areas.level(home).entries[e];
+                let word = *self.cell(home, e);
                 self.remember(&mut r, word)?;
             }
             ChainNext => {
@@ -831,7 +938,7 @@ impl Model {
             }
             SetLook => {
                 let (_, e) = self.entry_of_n(&r)?;
-                let word = self.areas.level(r.level).entries[e];
+                let word = *self.cell(r.level, e);
                 self.taken(word)?;
                 r.kind = if word == 2 * r.level { SetPut } else { SetRead };
             }
@@ -844,7 +951,7 @@ impl Model {
             }
             SetRead => {
                 let (_, e) = self.entry_of_n(&r)?;
-                let word = self.areas.level(r.level).entries[e];
+                let word = *self.cell(r.level, e);
                 self.as_set_read(&mut r, word)?;
             }
             SetAppend => {
@@ -868,9 +975,7 @@ impl Model {
                 let m = r.moves.last().unwrap().clone();
                 let e = self.entry(m.home, key)?;
                 self.level_taken(m.child)?;
-                let mut l = self.areas.level(m.home);
-                l.entries[e] = 2 * m.child;
-                self.areas.set_level(m.home, l);
+                *self.cell(m.home, e) = 2 * m.child;
                 r.moves.pop();
                 r.level = m.child;
                 r.kind = if r.moves.is_empty() { Look } else { SetNext };

@@ -1,13 +1,19 @@
-// Wrong versions of the model: each alters what the model leaves after one operation, and the comparison must find it. So a table that were wrong in
-// the same way would be found. There is at least one for each kind of turn, and several for each kind of exchange that fails; document 01's shortcuts
-// and wrong firmwares are among them. Others are run alone as machines, of which the bound of failed exchanges must not hold.
+// Wrong versions of the model: each alters what the model leaves after one operation, or what the digit width fixes, and the comparison must find it at every
+// width at which it is wrong. So a table that were wrong in the same way would be found. There is at least one for each kind of turn, and several for each kind
+// of exchange that fails and for each number that the width gives; document 01's shortcuts and wrong firmwares are among them. Others are run alone as
+// machines, of which the bound of failed exchanges must not hold.
 use crate::bound::{self, EXCHANGES};
 use crate::coverage::Total;
+use crate::examples;
 use crate::exchanges;
 use crate::lists;
-use crate::model::{Areas, Exchanges, Kind, Kind::*, Model, Reply, Settings, FOUND, FULL, KINDS, NEW, NOTHING, OPEN};
+use crate::model::{
+    digit, last_depth, level_words, levels, Areas, Exchanges, Kind, Kind::*, Model, Reply, Settings, Sizes, DOCUMENT, FOUND, FULL, KINDS, NEW,
+    NOTHING, OPEN, WIDTHS,
+};
 use crate::pair::{Compared, Op};
 use crate::random::Random;
+use crate::refusals;
 use crate::sequences;
 use crate::six;
 use crate::words::*;
@@ -15,6 +21,8 @@ use crate::words::*;
 pub struct Mutant {
     name: &'static str,
     of: Of,
+    // the widths at which it is wrong
+    at: &'static [u32],
     wrong: fn(&Op, &mut Wrong),
 }
 
@@ -41,6 +49,10 @@ enum Of {
     SpoiledCounts(&'static [Kind]),
     // lists that were refused as a whole
     RefusedLists,
+    // operations that were refused by 1 for their width, the other settings being in range
+    NoWidth,
+    // nothing after an operation, but what the width fixes
+    Sizes(Sizes),
 }
 
 // the exchanges of a search, which compare the pixel of a node met; those in a Move, which do not
@@ -68,6 +80,8 @@ impl Chosen {
             Of::Refused(_) => turn && number == 6 && model.withheld,
             Of::Lists | Of::Counts(_) | Of::SpoiledCounts(_) => matches!((op, number), (Op::Turns(..), 0 | 6)),
             Of::RefusedLists => matches!((op, number), (Op::Turns(..), 1..=4)),
+            Of::NoWidth => number == 1 && given.in_range(),
+            Of::Sizes(_) => false,
         };
         if !altered {
             return;
@@ -84,9 +98,19 @@ impl Chosen {
         x.reply.settings = x.model.settings;
     }
 
+    // what its model does with the width
+    pub fn sizes(&self) -> Sizes {
+        match self.mutant.of {
+            Of::Sizes(wrong) => wrong,
+            _ => DOCUMENT,
+        }
+    }
+
     fn name(&self) -> String {
         match (self.mutant.of, self.kind) {
-            (Of::Operations | Of::Turns(_) | Of::Lists | Of::RefusedLists, _) | (_, None) => self.mutant.name.to_string(),
+            (Of::Operations | Of::Turns(_) | Of::Lists | Of::RefusedLists | Of::NoWidth | Of::Sizes(_), _) | (_, None) => {
+                self.mutant.name.to_string()
+            }
             (_, Some(kind)) => format!("{kind:?}: {}", self.mutant.name),
         }
     }
@@ -164,7 +188,10 @@ impl Wrong<'_> {
     }
     // the new level's word k
     fn new_level(&mut self, k: usize, v: u32) {
-        self.put(Place::Levels(10 * (self.is(HELD_LEVEL) as usize - 1) + k), v);
+        self.put(Place::Levels(level_at(self.given.width, self.is(HELD_LEVEL) - 1) + k), v);
+    }
+    fn last_depth(&self) -> u32 {
+        last_depth(self.given.width)
     }
     // a number is taken although a spare was there
     fn take_node(&mut self) {
@@ -239,7 +266,7 @@ impl Wrong<'_> {
         (self.was(COUNT) + 1).min(self.given.limit + 1)
     }
     // from this level back to the one below H, over at most so many previous words, each naming one of the first levels
-    fn back(&self, from: u32, most: usize, levels: u32) -> Option<u32> {
+    fn back(&self, from: u32, most: u32, levels: u32) -> Option<u32> {
         let (v, mut at) = (self.view(), from);
         for _ in 0..most {
             if at >= levels {
@@ -254,7 +281,7 @@ impl Wrong<'_> {
         None
     }
     // the same from a taken level met, where the turn was refused
-    fn back_refused(&self, most: usize, levels: u32) -> Option<u32> {
+    fn back_refused(&self, most: u32, levels: u32) -> Option<u32> {
         let level = self.reply.number == 6 && !is_node(self.met()) && self.met_is_taken();
         Some(self.met() / 2).filter(|_| level).and_then(|g| self.back(g, most, levels))
     }
@@ -263,7 +290,7 @@ impl Wrong<'_> {
         if is_node(word) || self.reply.number != 0 {
             return;
         }
-        match self.back(word / 2, 7, self.given.levels_taken) {
+        match self.back(word / 2, self.last_depth(), self.given.levels_taken) {
             Some(g) => self.goes_on(2 * g, 0),
             None => self.undone(6, NOTHING),
         }
@@ -315,6 +342,37 @@ impl Wrong<'_> {
         let kind = self.kind;
         self.counts(op, |e| if e.kind == kind { of(e) } else { e.made });
     }
+    // the worker's words past its first 128 stay as they were
+    fn keep_past_128(&mut self, i: u32) {
+        let words = RECORD * i as usize + 128..RECORD * (i as usize + 1);
+        self.model.areas.workers[words.clone()].copy_from_slice(&self.before.workers[words]);
+    }
+    // the settings given back have this width
+    fn gives_back(&mut self, these: bool, width: u32) {
+        if these {
+            self.model.settings.width = width;
+        }
+    }
+    // the number of this question, if the operation asks it and the answer is no; of question 6 what is asked of an idle worker's record alone
+    fn asks_before_the_width(&mut self, op: &Op, question: u32) {
+        let (s, a) = (&self.given, self.before);
+        let worker = match op {
+            Op::Start(i, ..) | Op::Turn(i) | Op::Last(i) => Some(*i),
+            Op::Turns(list, _) => list.iter().map(|&i| i as u32).max(),
+            Op::Open => None,
+        };
+        let opening = matches!(op, Op::Open);
+        let no = match question {
+            2 => a.nodes.len() < 2 * s.nodes as usize || a.levels.len() < 2 || a.workers.len() < RECORD * s.workers as usize,
+            3 => !opening && (s.nodes_taken > s.nodes || s.levels_taken == 0),
+            4 => worker.is_some_and(|i| i >= s.workers),
+            5 => matches!(op, Op::Start(_, row, column) if row.max(column) > &4095),
+            _ => worker == Some(0) && a.workers.first().is_some_and(|&kind| kind > 22 || kind == 0 && a.workers[ANSWER] > 3),
+        };
+        if no {
+            self.reply.number = question;
+        }
+    }
     // the entry of the call's pixel in the innermost Move's home, also inside another Move
     fn entry_of_the_call(&self) -> Place {
         let v = self.view();
@@ -322,33 +380,47 @@ impl Wrong<'_> {
     }
 }
 
+// wrong at every width
+const fn mutant(of: Of, name: &'static str, wrong: fn(&Op, &mut Wrong)) -> Mutant {
+    Mutant { name, of, at: &WIDTHS, wrong }
+}
 const fn turn(kind: Kind, name: &'static str, wrong: fn(&Op, &mut Wrong)) -> Mutant {
-    Mutant { name, of: Of::Turns(kind), wrong }
+    mutant(Of::Turns(kind), name, wrong)
 }
 const fn failed(kinds: &'static [Kind], name: &'static str, wrong: fn(&Op, &mut Wrong)) -> Mutant {
-    Mutant { name, of: Of::Failed(kinds), wrong }
+    mutant(Of::Failed(kinds), name, wrong)
 }
 const fn asked(kinds: &'static [Kind], name: &'static str, wrong: fn(&Op, &mut Wrong)) -> Mutant {
-    Mutant { name, of: Of::Asked(kinds), wrong }
+    mutant(Of::Asked(kinds), name, wrong)
 }
 const fn spoiled(kinds: &'static [Kind], name: &'static str, wrong: fn(&Op, &mut Wrong)) -> Mutant {
-    Mutant { name, of: Of::Spoiled(kinds), wrong }
+    mutant(Of::Spoiled(kinds), name, wrong)
 }
 const fn refused(kinds: &'static [Kind], name: &'static str, wrong: fn(&Op, &mut Wrong)) -> Mutant {
-    Mutant { name, of: Of::Refused(kinds), wrong }
+    mutant(Of::Refused(kinds), name, wrong)
 }
 const fn list(name: &'static str, wrong: fn(&Op, &mut Wrong)) -> Mutant {
-    Mutant { name, of: Of::Lists, wrong }
+    mutant(Of::Lists, name, wrong)
 }
 const fn counts(kinds: &'static [Kind], name: &'static str, wrong: fn(&Op, &mut Wrong)) -> Mutant {
-    Mutant { name, of: Of::Counts(kinds), wrong }
+    mutant(Of::Counts(kinds), name, wrong)
 }
 const fn spoiled_counts(kinds: &'static [Kind], name: &'static str, wrong: fn(&Op, &mut Wrong)) -> Mutant {
-    Mutant { name, of: Of::SpoiledCounts(kinds), wrong }
+    mutant(Of::SpoiledCounts(kinds), name, wrong)
 }
 const fn operation(name: &'static str, wrong: fn(&Op, &mut Wrong)) -> Mutant {
-    Mutant { name, of: Of::Operations, wrong }
+    mutant(Of::Operations, name, wrong)
 }
+const fn no_width(name: &'static str, wrong: fn(&Op, &mut Wrong)) -> Mutant {
+    mutant(Of::NoWidth, name, wrong)
+}
+const fn sizes(at: &'static [u32], name: &'static str, wrong: Sizes) -> Mutant {
+    Mutant { name, of: Of::Sizes(wrong), at, wrong: |_, _| {} }
+}
+
+// the widths but 3, whose numbers are document 01's; those with more entries than its eight
+const BUT_3: &[u32] = &[2, 4, 6];
+const WIDE: &[u32] = &[4, 6];
 
 static MUTANTS: &[Mutant] = &[
     turn(Look, "Look: an empty entry goes to Read", |_, x| x.instead_of(Take, Read)),
@@ -377,7 +449,7 @@ static MUTANTS: &[Mutant] = &[
     turn(Append, "Append: an appended node stays spare", |_, x| x.set(HELD_NODE, x.was(HELD_NODE))),
     turn(Level, "Level: H's own depth", |_, x| x.new_level(1, x.view().get(x.view().depth_of(x.was(LEVEL))))),
     turn(Level, "Level: previous is the root", |_, x| x.new_level(0, 0)),
-    turn(Level, "Level: an entry refers to the root", |_, x| x.new_level(9, 0)),
+    turn(Level, "Level: an entry refers to the root", |_, x| x.new_level(level_words(x.given.width) - 1, 0)),
     turn(Level, "Level: leaves its spare and takes a number", |_, x| x.take_level()),
     turn(Close, "Close: done, moves nothing", |_, x| {
         if x.went_to(ChainHead) {
@@ -533,13 +605,13 @@ static MUTANTS: &[Mutant] = &[
             x.undone(6, NOTHING);
         }
     }),
-    asked(AT_R, "going back from the level met reads eight words", |_, x| {
-        if let Some(g) = x.back_refused(8, x.given.levels_taken) {
+    asked(AT_R, "going back from the level met reads one word too many", |_, x| {
+        if let Some(g) = x.back_refused(x.last_depth() + 1, x.given.levels_taken) {
             x.goes_on(2 * g, 0);
         }
     }),
     asked(AT_R, "going back from the level met goes over a level not taken", |_, x| {
-        if let Some(g) = x.back_refused(7, (x.before.levels.len() / 10) as u32) {
+        if let Some(g) = x.back_refused(x.last_depth(), (x.before.levels.len() / level_words(x.given.width)) as u32) {
             x.goes_on(2 * g, 0);
         }
     }),
@@ -551,20 +623,21 @@ static MUTANTS: &[Mutant] = &[
             x.set(COUNT, x.was(COUNT) + 1);
         }
     }),
-    asked(&[SetClose], "failed with seven Moves open, it is refused", |_, x| {
-        if x.was(MOVES) == 7 {
+    asked(&[SetClose], "failed without room for a Move, it is refused", |_, x| {
+        if x.was(MOVES) == x.last_depth() {
             x.undone(6, NOTHING);
         }
     }),
-    refused(&[SetClose], "the exchange is done, then the eighth Move is refused", |_, x| x.closes()),
-    refused(&[SetClose], "an eighth Move begins", |_, x| {
+    refused(&[SetClose], "the exchange is done, then one more Move is refused", |_, x| x.closes()),
+    refused(&[SetClose], "one more Move begins", |_, x| {
         let (h, g) = (x.was(LEVEL), x.was(HELD_LEVEL) - 1);
         x.closes();
         x.to(ChainHead);
         x.set(HELD_LEVEL, 0);
-        x.set(MOVES, 8);
+        let most = x.last_depth();
+        x.set(MOVES, most + 1);
         for (k, v) in [h, g].into_iter().chain([0; 9]).enumerate() {
-            x.set(home(7) + k, v);
+            x.set(home(most as usize) + k, v);
         }
         (x.reply.number, x.reply.answer) = (0, OPEN);
     }),
@@ -686,7 +759,8 @@ static MUTANTS: &[Mutant] = &[
         x.counts_here(op, |e| if e.withheld { ONE_DONE } else { e.made })
     }),
     spoiled_counts(&[SetClose], "failed without room for a Move, it is not counted", |op, x| {
-        x.counts_here(op, |e| if e.moves == 7 { NO_EXCHANGE } else { e.made })
+        let most = x.last_depth();
+        x.counts_here(op, |e| if e.moves == most { NO_EXCHANGE } else { e.made })
     }),
     list("list: a Move's exchanges are not counted", |op, x| {
         x.counts(op, |e| if e.kind.is_some_and(|k| MOVING.contains(&k)) { NO_EXCHANGE } else { e.made })
@@ -713,11 +787,7 @@ static MUTANTS: &[Mutant] = &[
     list("list: idle entries count as failed", |op, x| x.counts(op, |e| if e.number == 8 { ONE_FAILED } else { e.made })),
     list("list: done and failed exchanged", |_, x| x.reply.exchanges = Exchanges { done: x.reply.exchanges.failed, failed: x.reply.exchanges.done }),
     list("list: done tells all exchanges", |_, x| x.reply.exchanges.done += x.reply.exchanges.failed),
-    Mutant {
-        name: "list: refused, it reports the exchanges since the opening",
-        of: Of::RefusedLists,
-        wrong: |_, x| x.reply.exchanges = x.model.exchanges,
-    },
+    mutant(Of::RefusedLists, "list: refused, it reports the exchanges since the opening", |_, x| x.reply.exchanges = x.model.exchanges),
     operation("a single turn reports its exchange", |op, x| {
         if let (Op::Turn(i), 0) = (op, x.reply.number) {
             let own = Op::Turns(vec![*i as u8], 1);
@@ -734,6 +804,71 @@ static MUTANTS: &[Mutant] = &[
             x.reply.exchanges = x.model.exchanges;
         }
     }),
+    // the number that replaces 7: document 01's at every width, one more, one fewer; each use of it by itself
+    sizes(BUT_3, "level count with 7", Sizes { level_count: |s| levels(s, 7), ..DOCUMENT }),
+    sizes(&WIDTHS, "level count with all depths", Sizes { level_count: |s| levels(s, last_depth(s.width) + 1), ..DOCUMENT }),
+    sizes(&WIDTHS, "level count with one fewer", Sizes { level_count: |s| levels(s, last_depth(s.width) - 1), ..DOCUMENT }),
+    sizes(BUT_3, "depth at most 7", Sizes { deepest: |_| 7, ..DOCUMENT }),
+    sizes(&WIDTHS, "depth at most one more", Sizes { deepest: |w| last_depth(w) + 1, ..DOCUMENT }),
+    sizes(&WIDTHS, "depth at most one fewer", Sizes { deepest: |w| last_depth(w) - 1, ..DOCUMENT }),
+    sizes(BUT_3, "a new level's depth at most 7", Sizes { deepest_new: |_| 7, ..DOCUMENT }),
+    sizes(&WIDTHS, "a new level's depth at most one more", Sizes { deepest_new: |w| last_depth(w) + 1, ..DOCUMENT }),
+    sizes(&WIDTHS, "a new level's depth at most one fewer", Sizes { deepest_new: |w| last_depth(w) - 1, ..DOCUMENT }),
+    sizes(BUT_3, "going back reads at most 7 words", Sizes { most_back: |_| 7, ..DOCUMENT }),
+    sizes(&WIDTHS, "going back reads at most one word more", Sizes { most_back: |w| last_depth(w) + 1, ..DOCUMENT }),
+    sizes(&WIDTHS, "going back reads at most one word fewer", Sizes { most_back: |w| last_depth(w) - 1, ..DOCUMENT }),
+    sizes(BUT_3, "a record with room for 7 Moves", Sizes { most_moves: |_| 7, ..DOCUMENT }),
+    sizes(&WIDTHS, "a record with room for one Move more", Sizes { most_moves: |w| last_depth(w) + 1, ..DOCUMENT }),
+    sizes(&WIDTHS, "a record with room for one Move fewer", Sizes { most_moves: |w| last_depth(w) - 1, ..DOCUMENT }),
+    sizes(BUT_3, "7 Moves are open at most", Sizes { room_for_moves: |_| 7, ..DOCUMENT }),
+    sizes(&WIDTHS, "one Move more is open at most", Sizes { room_for_moves: |w| last_depth(w) + 1, ..DOCUMENT }),
+    sizes(&WIDTHS, "one Move fewer is open at most", Sizes { room_for_moves: |w| last_depth(w) - 1, ..DOCUMENT }),
+    // digits
+    sizes(BUT_3, "octal digits", Sizes { digit: |_, depth, pixel| digit(3, depth, pixel), ..DOCUMENT }),
+    sizes(WIDE, "eight entries are picked from", Sizes { digit: |w, depth, pixel| digit(w, depth, pixel) % 8, ..DOCUMENT }),
+    sizes(&WIDTHS, "the digit of the next depth", Sizes { digit: |w, depth, pixel| digit(w, depth + 1, pixel), ..DOCUMENT }),
+    sizes(&WIDTHS, "the digit of the previous depth", Sizes { digit: |w, depth, pixel| digit(w, depth.saturating_sub(1), pixel), ..DOCUMENT }),
+    sizes(&WIDTHS, "the rightmost digit is that of depth 0", Sizes { digit: |w, depth, pixel| digit(w, last_depth(w) - depth, pixel), ..DOCUMENT }),
+    // words
+    sizes(BUT_3, "10 words a level", Sizes { level_words: |_| 10, ..DOCUMENT }),
+    sizes(&WIDTHS, "a word more a level", Sizes { level_words: |w| level_words(w) + 1, ..DOCUMENT }),
+    sizes(&WIDTHS, "128 words a worker", Sizes { worker_words: 128, ..DOCUMENT }),
+    sizes(BUT_3, "8 entries are written", Sizes { filled: |_| 8, ..DOCUMENT }),
+    operation("opening: zeroes 128 words of each worker", |op, x| {
+        if matches!(op, Op::Open) {
+            (0..x.given.workers).for_each(|i| x.keep_past_128(i));
+        }
+    }),
+    // the eleventh Move has words there
+    Mutant {
+        at: &[2],
+        ..operation("turn: writes the first 128 words of its record", |op, x| {
+            if matches!(op, Op::Turn(_)) {
+                x.keep_past_128(x.worker);
+            }
+        })
+    },
+    // question 1
+    sizes(&WIDTHS, "width 1 is accepted", Sizes { accepted: |w| w == 1 || WIDTHS.contains(&w), ..DOCUMENT }),
+    sizes(&WIDTHS, "width 5 is accepted", Sizes { accepted: |w| w == 5 || WIDTHS.contains(&w), ..DOCUMENT }),
+    sizes(&WIDTHS, "width 8 is accepted", Sizes { accepted: |w| w == 8 || WIDTHS.contains(&w), ..DOCUMENT }),
+    sizes(&WIDTHS, "width 12 is accepted", Sizes { accepted: |w| w == 12 || WIDTHS.contains(&w), ..DOCUMENT }),
+    sizes(&WIDTHS, "every width from 1 to 24 is accepted", Sizes { accepted: |w| (1..=24).contains(&w), ..DOCUMENT }),
+    sizes(BUT_3, "width 3 alone is accepted", Sizes { accepted: |w| w == 3, ..DOCUMENT }),
+    no_width("the width is not asked", |_, x| x.reply.number = 0),
+    no_width("question 2 is asked before the width", |op, x| x.asks_before_the_width(op, 2)),
+    no_width("question 3 is asked before the width", |op, x| x.asks_before_the_width(op, 3)),
+    no_width("question 4 is asked before the width", |op, x| x.asks_before_the_width(op, 4)),
+    no_width("question 5 is asked before the width", |op, x| x.asks_before_the_width(op, 5)),
+    no_width("question 6 is asked before the width", |op, x| x.asks_before_the_width(op, 6)),
+    no_width("a width that is refused is given back as 3", |_, x| x.model.settings.width = 3),
+    // the width in the settings given back
+    Mutant { at: BUT_3, ..operation("an opening gives back width 3", |op, x| x.gives_back(matches!(op, Op::Open), 3)) },
+    operation("an opening gives back no width", |op, x| x.gives_back(matches!(op, Op::Open), 0)),
+    Mutant { at: BUT_3, ..operation("a start gives back width 3", |op, x| x.gives_back(matches!(op, Op::Start(..)), 3)) },
+    operation("a turn gives back no width", |op, x| x.gives_back(matches!(op, Op::Turn(_)), 0)),
+    operation("a list gives back no width", |op, x| x.gives_back(matches!(op, Op::Turns(..)), 0)),
+    operation("a last answer gives back no width", |op, x| x.gives_back(matches!(op, Op::Last(_)), 0)),
 ];
 
 // Wrong machines, of which failed exchanges are not bounded: one that tries again without reading, and ones that exchange a cell that they read as used.
@@ -745,20 +880,26 @@ static MACHINES: &[Mutant] = &[
     turn(SetTail, "SetTail: another next goes to SetAppend", |_, x| x.instead_of(SetFollow, SetAppend)),
 ];
 
-// Each wrong version through the same sequences until the first difference; gives the names of those never found.
+// Each wrong version through the same sequences until the first difference, at each width at which it is wrong; gives the names of those not found there.
 pub fn missed(seed: u64) -> Vec<String> {
     let all: Vec<Chosen> = MUTANTS.iter().flat_map(each).collect();
     for k in &KINDS[1..] {
         assert!(all.iter().any(|m| m.kind == Some(*k)), "no wrong version of {k:?}");
     }
-    let mut missed = vec![];
+    let (mut missed, mut found) = (vec![], 0);
     for m in &all {
-        match found_after(*m, seed) {
-            Some(turns) => println!("wrong version found after {turns} turns: {}", m.name()),
-            None => missed.push(format!("wrong version never found: {}", m.name())),
+        let mut after = vec![];
+        for &width in m.mutant.at {
+            match found_after(*m, width, seed) {
+                Some(turns) => after.push(format!("{turns} turns at width {width}")),
+                None => missed.push(format!("wrong version never found at width {width}: {}", m.name())),
+            }
         }
+        found += (after.len() == m.mutant.at.len()) as usize;
+        println!("wrong version found after {}: {}", after.join(", "), m.name());
     }
-    println!("{} of {} wrong versions found", all.len() - missed.len(), all.len());
+    let widths: usize = all.iter().map(|m| m.mutant.at.len()).sum();
+    println!("{found} of {} wrong versions found, each at every width at which it is wrong, {} of {widths}", all.len(), widths - missed.len());
     missed.extend(unbounded(seed));
     missed
 }
@@ -767,22 +908,23 @@ pub fn missed(seed: u64) -> Vec<String> {
 fn unbounded(seed: u64) -> Vec<String> {
     let all: Vec<Chosen> = MACHINES.iter().flat_map(each).collect();
     let mut missed = vec![];
-    for m in &all {
-        match bound::found(*m, seed) {
+    for (m, &width) in all.iter().flat_map(|m| m.mutant.at.iter().map(move |width| (m, width))) {
+        match bound::found(*m, width, seed) {
             [Some(bound), Some(alone)] => {
-                println!("wrong machine found by the bound in table {bound}, by a worker alone in table {alone}: {}", m.name())
+                println!("wrong machine found at width {width} by the bound in table {bound}, by a worker alone in table {alone}: {}", m.name())
             }
-            found => missed.push(format!("wrong machine found by the bound and by a worker alone {found:?}: {}", m.name())),
+            found => missed.push(format!("wrong machine found at width {width} by the bound and by a worker alone {found:?}: {}", m.name())),
         }
     }
-    println!("{} of {} wrong machines found", all.len() - missed.len(), all.len());
+    let widths = WIDTHS.len() * all.len();
+    println!("{} wrong machines, found at {} of {widths} widths", all.len(), widths - missed.len());
     missed
 }
 
 // a wrong version of several kinds must be found at each of them
 fn each(mutant: &'static Mutant) -> Vec<Chosen> {
     match mutant.of {
-        Of::Operations | Of::Lists | Of::RefusedLists => vec![Chosen { mutant, kind: None }],
+        Of::Operations | Of::Lists | Of::RefusedLists | Of::NoWidth | Of::Sizes(_) => vec![Chosen { mutant, kind: None }],
         Of::Turns(kind) => vec![Chosen { mutant, kind: Some(kind) }],
         Of::Failed(kinds) | Of::Asked(kinds) | Of::Spoiled(kinds) | Of::Refused(kinds) | Of::Counts(kinds) | Of::SpoiledCounts(kinds) => {
             kinds.iter().map(|&kind| Chosen { mutant, kind: Some(kind) }).collect()
@@ -791,24 +933,34 @@ fn each(mutant: &'static Mutant) -> Vec<Chosen> {
 }
 
 // the number of turns compared until the wrong version was found
-fn found_after(m: Chosen, seed: u64) -> Option<u64> {
+fn found_after(m: Chosen, width: u32, seed: u64) -> Option<u64> {
     let mut total = Total::default();
     total.mutant = Some(m);
-    let spoiled = matches!(m.mutant.of, Of::Asked(_) | Of::Spoiled(_) | Of::Refused(_) | Of::SpoiledCounts(_));
-    let difference = some_difference(&mut total, seed, spoiled).err()?;
+    let difference = some_difference(m.mutant.of, width, seed, &mut total).err()?;
     Some(total.turns + difference.turns)
 }
 
-fn some_difference(total: &mut Total, seed: u64, spoiled: bool) -> Compared<()> {
+fn some_difference(of: Of, width: u32, seed: u64, total: &mut Total) -> Compared<()> {
+    let spoiled = matches!(of, Of::Asked(_) | Of::Spoiled(_) | Of::Refused(_) | Of::SpoiledCounts(_));
     if spoiled {
-        return six::silent(seed, total);
+        return six::one_width(width, seed, total).map(|_| ());
+    }
+    if let Of::NoWidth = of {
+        return refusals::no_width(width, total);
+    }
+    if let Of::Sizes(_) = of {
+        examples::all(width, total)?;
+        sequences::written(width, total)?;
+        refusals::no_width(width, total)?;
+        six::one_width(width, seed, total)?;
+        return refusals::all(width, seed, total);
     }
     let r = &mut Random::new(seed);
-    sequences::written(total)?;
-    exchanges::all(total)?;
-    lists::all(seed, total)?;
+    sequences::written(width, total)?;
+    exchanges::all(width, total)?;
+    lists::all(width, seed, total)?;
     while total.turns < 300_000 {
-        sequences::orders(r.next(), total)?;
+        sequences::orders(width, r.next(), total)?;
     }
     Ok(())
 }

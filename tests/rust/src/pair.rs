@@ -1,5 +1,6 @@
 // The table and the model side by side: every operation is done on both, then reply, settings and every word of the three areas are compared.
 use crate::bound::BoundSeen;
+use crate::coverage::{place, PLACES};
 use crate::model::{Areas, Exchanges, Model, Reply, Seen, Settings, FULL};
 use crate::mutants::Chosen;
 use crate::table::Table;
@@ -15,6 +16,7 @@ pub enum Op {
 }
 
 pub const OPERATIONS: [&str; 5] = ["opening", "start", "turn", "list of turns", "last answer"];
+pub type Numbers = [[u64; 10]; OPERATIONS.len()];
 
 impl Op {
     pub fn index(&self) -> usize {
@@ -41,8 +43,8 @@ pub struct Pair {
     pub table: Table,
     pub model: Model,
     pub what: String,
-    // how often each operation gave each number
-    pub numbers: [[u64; 10]; 5],
+    // how often each operation gave each number, by the width handed in (coverage.rs)
+    pub numbers: [Numbers; PLACES],
     pub mutant: Option<Chosen>,
     pub bound: BoundSeen,
     // an opening was carried out, and no test has written to memory since
@@ -59,7 +61,7 @@ impl Pair {
             before: a.clone(),
             model: Model::new(s, a),
             what: what.to_string(),
-            numbers: [[0; 10]; 5],
+            numbers: Default::default(),
             mutant: None,
             bound: BoundSeen::default(),
             fresh: false,
@@ -69,7 +71,7 @@ impl Pair {
 
     // a copy to try something on, of which nothing has been seen yet
     pub fn again(&self) -> Pair {
-        let mut p = Pair { numbers: [[0; 10]; 5], bound: BoundSeen::default(), ..self.clone() };
+        let mut p = Pair { numbers: Default::default(), bound: BoundSeen::default(), ..self.clone() };
         p.model.seen = Seen::default();
         p
     }
@@ -107,7 +109,7 @@ impl Pair {
         if got != want || self.table.areas != self.model.areas {
             return Err(self.difference(format!("{op:?}: the table gives {got:?}, the model {want:?}{}", self.words_that_differ())));
         }
-        self.numbers[op.index()][got.number as usize] += 1;
+        self.numbers[place(given.width)][op.index()][got.number as usize] += 1;
         if !self.kept(&op, &got, given) {
             return Err(self.difference(format!("{op:?}: refused by {}, and something changed", got.number)));
         }

@@ -1,21 +1,23 @@
-// Each question's number just inside and just outside its case, for each operation that asks it; their order; lists with every limit.
+// Each question's number just inside and just outside its case, for each operation that asks it, at each digit width; their order; lists with every limit.
 // That a refusal changes nothing is checked after every operation (pair.rs). Question 6 has its own tests (six.rs).
 use crate::coverage::Total;
-use crate::model::{self, Areas, FULL, NEW};
+use crate::model::{self, last_depth, Areas, Settings, FULL, NEW, WIDTHS};
 use crate::pair::{Compared, Op, Pair};
 use crate::random::Random;
-use crate::sequences::{opened, settings, sized, whole};
+use crate::sequences::{of_width, opened, pixel, settings, sized, start, whole};
+use crate::table;
 use crate::words::{Place, ANSWER, HELD_NODE, KIND, LEVEL, RECORD};
 
-pub fn all(seed: u64, total: &mut Total) -> Compared<()> {
-    question_1(total)?;
-    question_2(total)?;
-    question_3(total)?;
-    question_4(total)?;
-    questions_5_7_8(total)?;
-    question_9(total)?;
-    order(total)?;
-    lists(seed, total)
+pub fn all(width: u32, seed: u64, total: &mut Total) -> Compared<()> {
+    question_1(width, total)?;
+    no_width(width, total)?;
+    question_2(width, total)?;
+    question_3(width, total)?;
+    question_4(width, total)?;
+    questions_5_7_8(width, total)?;
+    question_9(width, total)?;
+    order(width, total)?;
+    lists(width, seed, total)
 }
 
 // one of each operation, in an order in which a fresh table carries all of them out
@@ -29,18 +31,89 @@ fn gives(p: &mut Pair, op: Op, number: u32) -> Compared<()> {
     Ok(())
 }
 
-fn question_1(total: &mut Total) -> Compared<()> {
-    let inside = [(1, 1, 1), (16, 1, 1), (1, 8, 1), (1, 1, 4096), (16, 8, 4096), (16, 1, 4096)];
-    let outside = [(0, 1, 1), (17, 1, 1), (u32::MAX, 1, 1), (1, 0, 1), (1, 9, 1), (1, u32::MAX, 1), (1, 1, 0), (1, 1, 4097), (1, 1, u32::MAX)];
-    let enough = sized(&settings(17, 1, 4097), 0, 1);
-    for (sizes, number) in inside.map(|x| (x, 0)).into_iter().chain(outside.map(|x| (x, 1))) {
-        let mut p = total.pair(settings(sizes.0, sizes.1, sizes.2), enough.clone(), "question 1");
+// workers, limit and nodes in range, and out of it
+const INSIDE: [(u32, u32, u32); 6] = [(1, 1, 1), (16, 1, 1), (1, 8, 1), (1, 1, 4096), (16, 8, 4096), (16, 1, 4096)];
+const OUTSIDE: [(u32, u32, u32); 9] =
+    [(0, 1, 1), (17, 1, 1), (u32::MAX, 1, 1), (1, 0, 1), (1, 9, 1), (1, u32::MAX, 1), (1, 1, 0), (1, 1, 4097), (1, 1, u32::MAX)];
+
+fn question_1(width: u32, total: &mut Total) -> Compared<()> {
+    for ((workers, limit, nodes), number) in INSIDE.map(|x| (x, 0)).into_iter().chain(OUTSIDE.map(|x| (x, 1))) {
+        let enough = sized(&settings(workers.clamp(1, 17), limit.clamp(1, 8), nodes.clamp(1, 4097), width), 0, 1);
+        let mut p = total.pair(settings(workers, limit, nodes, width), enough, "question 1");
         for op in each() {
             gives(&mut p, op, number)?;
         }
         total.add(&p);
     }
     Ok(())
+}
+
+// other widths: near the four, divisors of 24, and numbers that are one of the four where bits above the fifth, sixth, eighth, sixteenth or last are lost
+const NO_WIDTHS: [u32; 16] = [0, 1, 5, 7, 8, 9, 10, 12, 24, 32, 32 + 3, 64 + 4, 256 + 6, 65_536 + 2, (1 << 31) + 3, u32::MAX];
+
+// "another width is refusal 1", before everything that the width is needed for: with all else sound, and with each of the later questions answered no too
+pub fn no_width(width: u32, total: &mut Total) -> Compared<()> {
+    let edits: &[fn(&mut Areas, &mut Settings)] = &[
+        // the level area that width 12 would have is there
+        |a, _| a.levels.resize(30_000, 4),
+        |_, s| s.workers = 0,
+        |_, s| s.workers = 17,
+        |_, s| s.limit = 0,
+        |_, s| s.limit = 9,
+        |_, s| s.nodes = 0,
+        |_, s| s.nodes = u32::MAX,
+        |_, s| (s.workers, s.limit, s.nodes) = (0, 0, 0),
+        |a, _| a.nodes.truncate(9),
+        |a, _| a.levels.truncate(1),
+        |a, _| a.workers.truncate(767),
+        |a, _| (a.nodes, a.levels, a.workers) = (vec![], vec![], vec![]),
+        |a, s| (a.levels, s.limit) = (vec![], 0),
+        |_, s| s.nodes_taken = 6,
+        |_, s| s.levels_taken = 0,
+        |_, s| s.levels_taken = u32::MAX,
+        |a, _| a.workers[KIND] = 23,
+        |a, _| a.workers[ANSWER] = 4,
+    ];
+    let ops = each().into_iter().chain([
+        Op::Start(3, 0, 0),
+        Op::Start(0, 4096, 0),
+        Op::Turn(3),
+        Op::Turns(vec![0, 3], 0),
+        Op::Turns(vec![], 0),
+        Op::Last(3),
+    ]);
+    let ops: Vec<Op> = ops.collect();
+    let before = opened(total, settings(3, 2, 5, width), 0, 4, "no width")?;
+    for none in NO_WIDTHS {
+        for edit in edits {
+            let mut p = before.again();
+            p.edit(|a, s| {
+                edit(a, s);
+                s.width = none;
+            });
+            ops.iter().try_for_each(|op| gives(&mut p, op.clone(), 1))?;
+            total.add(&p);
+        }
+    }
+    Ok(())
+}
+
+// The level count at every width against its formula; 0 for settings out of range, another width among them.
+pub fn level_counts() {
+    let count = |(workers, limit, nodes): (u32, u32, u32), width: u32| table::level_count(&settings(workers, limit, nodes, width));
+    for (width, seven) in WIDTHS.into_iter().zip([11, 7, 5, 3]) {
+        for workers in 1..=16 {
+            for limit in 1..=8 {
+                for nodes in 1..=4096 {
+                    assert_eq!(count((workers, limit, nodes), width), 1 + seven * (nodes / limit) + workers, "{workers}, {limit}, {nodes}, {width}");
+                }
+            }
+        }
+        OUTSIDE.into_iter().for_each(|sizes| assert_eq!(count(sizes, width), 0, "{sizes:?}, {width}"));
+    }
+    for none in NO_WIDTHS {
+        INSIDE.into_iter().chain(OUTSIDE).for_each(|sizes| assert_eq!(count(sizes, none), 0, "{sizes:?}, {none}"));
+    }
 }
 
 fn area(a: &mut Areas, which: usize) -> &mut Vec<u32> {
@@ -52,30 +125,35 @@ fn area(a: &mut Areas, which: usize) -> &mut Vec<u32> {
 }
 
 // each area empty, short by one word, exact, and longer
-fn question_2(total: &mut Total) -> Compared<()> {
+fn question_2(width: u32, total: &mut Total) -> Compared<()> {
     const EXCESS: u32 = 0xabcd;
-    let s = settings(3, 2, 5);
-    for which in 0..3 {
-        let exact = [10, 180, 384][which];
-        for (words, number) in [(0, 2), (exact - 1, 2), (exact, 0), (exact + 1, 0), (exact + 200, 0)] {
-            let mut p = opened(total, s, 0, 4, "question 2")?;
-            assert_eq!(area(&mut p.table.areas, which).len(), exact);
-            p.edit(|a, _| area(a, which).resize(words, EXCESS));
-            for op in each() {
-                gives(&mut p, op, number)?;
+    // 26 levels of 6 words, 18 of 10, 14 of 18, 10 of 66; the most nodes with the shortest chains and all workers
+    let small = (settings(3, 2, 5, width), [10, of_width(width, [156, 180, 252, 660]), 768]);
+    let largest = (settings(16, 1, 4096, width), [8_192, of_width(width, [270_438, 286_890, 368_946, 812_130]), 4_096]);
+    for ((s, areas), excesses) in [(small, &[0, 1, 200][..]), (largest, &[0])] {
+        for (which, exact) in areas.into_iter().enumerate() {
+            let enough = excesses.iter().map(|excess| (exact + excess, 0));
+            for (words, number) in [(0, 2), (exact - 1, 2)].into_iter().chain(enough) {
+                let mut p = opened(total, s, 0, 4, "question 2")?;
+                assert_eq!(area(&mut p.table.areas, which).len(), exact);
+                p.edit(|a, _| area(a, which).resize(words, EXCESS));
+                for op in each() {
+                    gives(&mut p, op, number)?;
+                }
+                let excess = area(&mut p.table.areas, which).iter().skip(exact);
+                assert!(excess.eq(std::iter::repeat_n(&EXCESS, words.saturating_sub(exact))), "the excess is untouched");
+                total.add(&p);
             }
-            let excess = area(&mut p.table.areas, which).iter().skip(exact);
-            assert!(excess.eq(std::iter::repeat_n(&EXCESS, words.saturating_sub(exact))), "the excess is untouched");
-            total.add(&p);
         }
     }
     Ok(())
 }
 
-fn question_3(total: &mut Total) -> Compared<()> {
-    // 1 + 7 × floor(5 / 2) + 3 levels
-    for (nodes, levels, number) in [(5, 1, 0), (6, 1, 3), (u32::MAX, 1, 3), (0, 0, 3), (0, 1, 0), (0, 18, 0), (0, 19, 3), (0, u32::MAX, 3)] {
-        let mut p = opened(total, settings(3, 2, 5), 3, 4, "question 3")?;
+fn question_3(width: u32, total: &mut Total) -> Compared<()> {
+    // 1 + 7 × floor(5 / 2) + 3 levels, with 11, 7, 5 and 3 for 7
+    let all = of_width(width, [26, 18, 14, 10]);
+    for (nodes, levels, number) in [(5, 1, 0), (6, 1, 3), (u32::MAX, 1, 3), (0, 0, 3), (0, 1, 0), (0, all, 0), (0, all + 1, 3), (0, u32::MAX, 3)] {
+        let mut p = opened(total, settings(3, 2, 5, width), 3, 4, "question 3")?;
         p.edit(|_, s| (s.nodes_taken, s.levels_taken) = (nodes, levels));
         for op in each().into_iter().skip(1) {
             gives(&mut p, op, number)?;
@@ -86,9 +164,9 @@ fn question_3(total: &mut Total) -> Compared<()> {
     Ok(())
 }
 
-fn question_4(total: &mut Total) -> Compared<()> {
+fn question_4(width: u32, total: &mut Total) -> Compared<()> {
     for workers in [1, 3, 16] {
-        let mut p = opened(total, settings(workers, 2, 5), 0, 4, "question 4")?;
+        let mut p = opened(total, settings(workers, 2, 5, width), 0, 4, "question 4")?;
         for (i, number) in [(workers - 1, 0), (workers, 4), (u32::MAX, 4)] {
             gives(&mut p, Op::Start(i, 0, 0), number)?;
             gives(&mut p, Op::Turn(i), number)?;
@@ -111,8 +189,8 @@ fn question_4(total: &mut Total) -> Compared<()> {
     Ok(())
 }
 
-fn questions_5_7_8(total: &mut Total) -> Compared<()> {
-    let mut p = opened(total, settings(3, 2, 5), 0, 4, "questions 5, 7 and 8")?;
+fn questions_5_7_8(width: u32, total: &mut Total) -> Compared<()> {
+    let mut p = opened(total, settings(3, 2, 5, width), 0, 4, "questions 5, 7 and 8")?;
     for (row, column) in [(4096, 0), (0, 4096), (4096, 4095), (4095, 4096), (u32::MAX, 0), (0, u32::MAX)] {
         gives(&mut p, Op::Start(0, row, column), 5)?;
     }
@@ -133,11 +211,11 @@ fn questions_5_7_8(total: &mut Total) -> Compared<()> {
     Ok(())
 }
 
-// Take on turn 2 for (512,0), TakeTail on turn 4 for (1,1), node 0 having been placed at (0,0): a node left, none left but a spare, none at all.
-fn question_9(total: &mut Total) -> Compared<()> {
-    for (row, column, turn) in [(512, 0, 2), (1, 1, 4)] {
+// Take on turn 2 in the root's next entry, TakeTail on turn 4 for (1,1), node 0 having been placed at (0,0): a node left, none left but a spare, none at all.
+fn question_9(width: u32, total: &mut Total) -> Compared<()> {
+    for (pixel, turn) in [(pixel(width, "1"), 2), (4097, 4)] {
         for (nodes, spare, number) in [(1, false, 9), (2, false, 0), (2, true, 0), (3, true, 0)] {
-            let mut p = opened(total, settings(2, 4, nodes), 0, 4, "question 9")?;
+            let mut p = opened(total, settings(2, 4, nodes, width), 0, 4, "question 9")?;
             gives(&mut p, Op::Start(1, 0, 0), 0)?;
             if spare {
                 // worker 1's Put fails
@@ -146,7 +224,7 @@ fn question_9(total: &mut Total) -> Compared<()> {
             whole(&mut p, 0, 0)?;
             gives(&mut p, Op::Turns(vec![1; 9], 9), 0)?;
             assert_eq!(p.table.areas.workers[RECORD + HELD_NODE], if spare { 1 } else { 0 });
-            gives(&mut p, Op::Start(1, row, column), 0)?;
+            gives(&mut p, start(1, pixel), 0)?;
             gives(&mut p, Op::Turns(vec![1; turn - 1], 9), 0)?;
             // 6 is asked before 9: the level is not taken
             p.put(Place::Workers(RECORD + LEVEL), 1);
@@ -164,7 +242,7 @@ fn question_9(total: &mut Total) -> Compared<()> {
 }
 
 // All questions answered no at once, then the first `yes` of them yes: the number is that of the first no that the operation asks.
-fn order(total: &mut Total) -> Compared<()> {
+fn order(width: u32, total: &mut Total) -> Compared<()> {
     for yes in 0..8 {
         let i = if yes < 4 { 3 } else { 1 };
         let row = if yes < 5 { 4096 } else { 0 };
@@ -180,7 +258,7 @@ fn order(total: &mut Total) -> Compared<()> {
                 if word == ANSWER && yes >= 6 {
                     continue;
                 }
-                let mut p = faulty(total, yes, word, v)?;
+                let mut p = faulty(width, total, yes, word, v)?;
                 gives(&mut p, op.clone(), number)?;
                 total.add(&p);
             }
@@ -189,8 +267,8 @@ fn order(total: &mut Total) -> Compared<()> {
     Ok(())
 }
 
-fn faulty(total: &Total, yes: usize, word: usize, v: u32) -> Compared<Pair> {
-    let mut p = opened(total, settings(3, 2, 5), 0, 4, "the order of the questions")?;
+fn faulty(width: u32, total: &Total, yes: usize, word: usize, v: u32) -> Compared<Pair> {
+    let mut p = opened(total, settings(3, 2, 5, width), 0, 4, "the order of the questions")?;
     if yes < 7 && word == KIND {
         p.run(Op::Start(1, 0, 0))?;
     }
@@ -212,22 +290,22 @@ fn faulty(total: &Total, yes: usize, word: usize, v: u32) -> Compared<Pair> {
 }
 
 // Lists of turns with every limit beside single turns: the same table, number and turns done.
-fn lists(seed: u64, total: &mut Total) -> Compared<()> {
+fn lists(width: u32, seed: u64, total: &mut Total) -> Compared<()> {
     let r = &mut Random::new(seed);
     let list: Vec<u8> = (0..60).map(|_| r.below(4) as u8).collect();
     // nothing spoilt; the same with one node; the root's depth, from the tenth entry on; the record of worker 3, which is idle
     let nothing: &[(Place, u32)] = &[];
-    let level: &[(Place, u32)] = &[(Place::Levels(1), 8)];
+    let level: &[(Place, u32)] = &[(Place::Levels(1), last_depth(width) + 1)];
     let record: &[(Place, u32)] = &[(Place::Workers(3 * RECORD + ANSWER), 4)];
     let mut met = [0; 2];
     for (nodes, limit, first, spoilt) in [(6, 1, 0, nothing), (1, 4, 0, nothing), (6, 1, 9, level), (6, 1, 0, record)] {
-        let s = settings(4, limit, nodes);
+        let s = settings(4, limit, nodes, width);
         for turns in (0..=62).chain([u32::MAX]) {
             let mut a = opened(total, s, 0, 5, "lists")?;
             let mut b = opened(total, s, 0, 5, "lists, turn by turn")?;
             for p in [&mut a, &mut b] {
                 for (i, pixel) in [(0, 0), (1, 7), (2, 7)] {
-                    p.run(Op::Start(i, 0, pixel))?;
+                    p.run(start(i, pixel))?;
                 }
                 p.run(Op::Turns(list[..first].to_vec(), 9))?;
                 for &(place, v) in spoilt {
@@ -242,7 +320,7 @@ fn lists(seed: u64, total: &mut Total) -> Compared<()> {
             total.add(&a);
         }
     }
-    assert!(met[0] > 128 && met[1] > 32, "lists that met 6 and lists that did not: {met:?}");
+    assert!(met[0] > 128 && met[1] > 32, "width {width}: lists that did not meet 6 and lists that did: {met:?}");
     Ok(())
 }
 

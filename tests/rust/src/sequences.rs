@@ -1,21 +1,21 @@
-// Sequences of operations, random ones from a seed of their own: `leafdrum_tests NAME SEED` runs one again.
+// Sequences of operations at a digit width, random ones from a seed of their own: `leafdrum_tests NAME SEED WIDTH` runs one again.
 use crate::bound;
-use crate::coverage::Total;
-use crate::model::{self, Areas, Kind, Settings, KINDS, NONE};
+use crate::coverage::{place, Total};
+use crate::model::{self, Areas, Kind, Settings, KINDS, NONE, WIDTHS};
 use crate::pair::{Compared, Op, Pair};
 use crate::random::Random;
-use crate::words::{remembered, Place, View, COUNT, KIND, LEVEL, MOVES, NODE, PIXEL, RECORD, TOP};
+use crate::words::{home, level_at, remembered, Place, View, COUNT, KIND, LEVEL, MOVES, NODE, PIXEL, RECORD, TOP};
 
-pub fn settings(workers: u32, limit: u32, nodes: u32) -> Settings {
-    Settings { workers, limit, nodes, nodes_taken: 0, levels_taken: 1 }
+pub fn settings(workers: u32, limit: u32, nodes: u32, width: u32) -> Settings {
+    Settings { workers, limit, nodes, nodes_taken: 0, levels_taken: 1, width }
 }
 
 // areas with `more` words beyond those needed
 pub fn sized(s: &Settings, more: usize, fill: u32) -> Areas {
     Areas {
         nodes: vec![fill; 2 * s.nodes as usize + more],
-        levels: vec![fill; 10 * model::level_count(s) as usize + more],
-        workers: vec![fill; 128 * s.workers as usize + more],
+        levels: vec![fill; model::level_words(s.width) * model::level_count(s) as usize + more],
+        workers: vec![fill; RECORD * s.workers as usize + more],
     }
 }
 
@@ -23,6 +23,20 @@ pub fn opened(total: &Total, s: Settings, more: usize, fill: u32, what: &str) ->
     let mut p = total.pair(s, sized(&s, more, fill), what);
     p.run(Op::Open)?;
     Ok(p)
+}
+
+// the one of four that is for this width
+pub fn of_width<T: Copy>(width: u32, four: [T; WIDTHS.len()]) -> T {
+    four[place(width)]
+}
+
+// the pixel with these digits from depth 0 on, then zeros
+pub fn pixel(width: u32, digits: &str) -> u32 {
+    digits.bytes().zip(0..).map(|(digit, depth)| (digit - b'0') as u32 * model::divisor(width, depth)).sum()
+}
+
+pub fn start(i: u32, pixel: u32) -> Op {
+    Op::Start(i, pixel >> 12, pixel & 4095)
 }
 
 // Pixels that share long beginnings, so that chains close and Moves nest.
@@ -46,18 +60,18 @@ fn some_list(r: &mut Random, workers: u32, longest: u64) -> Op {
     Op::Turns(list, r.below(longest + 10) as u32)
 }
 
-pub fn orders(seed: u64, total: &mut Total) -> Compared<()> {
+pub fn orders(width: u32, seed: u64, total: &mut Total) -> Compared<()> {
     let r = &mut Random::new(seed);
     let limit = r.pick(&[1, 1, 1, 2, 2, 3, 4, 5, 6, 7, 8]);
-    let s = settings(1 + r.below(16) as u32, limit, 1 + r.below(64) as u32);
+    let s = settings(1 + r.below(16) as u32, limit, 1 + r.below(64) as u32, width);
     let spread = r.pick(&[2, 3, 4, 6, 8, 12, 24]);
-    any_order(r, total, s, spread, 2000, &format!("orders {seed}"))
+    any_order(r, total, s, spread, 2000, &format!("orders {seed} {width}"))
 }
 
-pub fn large(seed: u64, total: &mut Total) -> Compared<()> {
+pub fn large(width: u32, seed: u64, total: &mut Total) -> Compared<()> {
     let r = &mut Random::new(seed);
-    let s = settings(1 + r.below(16) as u32, 1 + r.below(8) as u32, r.pick(&[256, 1024, 4096]));
-    any_order(r, total, s, 24, 20_000, &format!("large {seed}"))
+    let s = settings(1 + r.below(16) as u32, 1 + r.below(8) as u32, r.pick(&[256, 1024, 4096]), width);
+    any_order(r, total, s, 24, 20_000, &format!("large {seed} {width}"))
 }
 
 // Random starts, turns, lists and reads of last answers on a fresh table.
@@ -87,20 +101,44 @@ fn any_order(r: &mut Random, total: &mut Total, s: Settings, spread: u64, steps:
     Ok(())
 }
 
-pub fn written(total: &mut Total) -> Compared<()> {
-    nested(total)?;
-    past_the_limit(total)
+pub fn written(width: u32, total: &mut Total) -> Compared<()> {
+    nested(width, total)?;
+    past_the_limit(width, total)?;
+    way_back_in_a_move(width, total)
 }
 
-// A written schedule that nests Moves to 7: pixel 0 is placed; worker 0 places 7; worker 1 places 1 to 6, each whole just before a SetLook of worker 0.
-fn nested(total: &mut Total) -> Compared<()> {
-    let mut p = opened(total, settings(2, 1, 16), 0, 7, "nested")?;
+// Openings one after another over the same areas, each with another width, calls amid Moves left behind; the last one is at the width named. No wrong version
+// is tried on it: each is to be found at the width at which it is wrong.
+pub fn reopened(width: u32, seed: u64, total: &mut Total) -> Compared<()> {
+    let r = &mut Random::new(seed + width as u64);
+    let widest = settings(5, 1, 24, *WIDTHS.last().expect("four widths"));
+    let mut p = total.pair(widest, sized(&widest, 0, 7), &format!("reopened, width {width}"));
+    for other in WIDTHS.into_iter().filter(|&w| w != width).chain([width]) {
+        p.edit(|_, s| s.width = other);
+        p.run(Op::Open)?;
+        let mut q = p.again();
+        for _ in 0..1500 {
+            let i = r.below(5) as u32;
+            go_on(r, &mut q, i, 6)?;
+        }
+        total.add(&q);
+        p = q;
+    }
+    Ok(())
+}
+
+// A written schedule that nests Moves to the last depth: pixel 0 is placed; worker 0 places 3; worker 1 places the others, each whole just before a SetLook of
+// worker 0. The k-th has zeros to depth k + 1, so that it meets the one before it at depth k and the one after it a depth below.
+fn nested(width: u32, total: &mut Total) -> Compared<()> {
+    let last = model::last_depth(width);
+    let others: Vec<u32> = (3..=last).map(|depth| model::divisor(width, depth)).chain([2]).collect();
+    let mut p = opened(total, settings(2, 1, 16, width), 0, 7, &format!("nested, width {width}"))?;
     whole(&mut p, 0, 0)?;
-    p.run(Op::Start(0, 0, 7))?;
+    p.run(start(0, 3))?;
     let (mut placed, mut deepest) = (vec![], 0);
     loop {
-        if placed.len() < 6 && p.table.areas.workers[KIND] == Kind::SetLook as u32 {
-            placed.push(whole(&mut p, 1, placed.len() as u32 + 1)?);
+        if placed.len() < others.len() && p.table.areas.workers[KIND] == Kind::SetLook as u32 {
+            placed.push(whole(&mut p, 1, others[placed.len()])?);
         }
         let q = p.run(Op::Turn(0))?;
         deepest = deepest.max(p.table.areas.workers[MOVES]);
@@ -109,10 +147,10 @@ fn nested(total: &mut Total) -> Compared<()> {
             break;
         }
     }
-    assert_eq!(deepest, 7, "Moves nested");
-    assert_eq!(placed, (1..8).map(|n| (model::NEW, n)).collect::<Vec<_>>(), "pixels 1 to 6, then 7");
-    for pixel in 0..8 {
-        assert_eq!(whole(&mut p, 1, pixel)?, (model::FOUND, pixel), "pixel {pixel}");
+    assert_eq!(deepest, last, "Moves nested");
+    assert_eq!(placed, (1..=last).map(|n| (model::NEW, n)).collect::<Vec<_>>(), "worker 1's pixels, then worker 0's");
+    for (pixel, n) in [0].into_iter().chain(others).chain([3]).zip(0..) {
+        assert_eq!(whole(&mut p, 1, pixel)?, (model::FOUND, n), "pixel {pixel}");
     }
     total.add(&p);
     Ok(())
@@ -120,17 +158,15 @@ fn nested(total: &mut Total) -> Compared<()> {
 
 // "A count past the limit stays at limit + 1": worker 0 stands at the third node of a full chain while worker 1 moves it, so that the chain is
 // met once more the other way round.
-fn past_the_limit(total: &mut Total) -> Compared<()> {
-    let mut p = opened(total, settings(2, 3, 16), 0, 7, "past the limit")?;
+fn past_the_limit(width: u32, total: &mut Total) -> Compared<()> {
+    let mut p = opened(total, settings(2, 3, 16, width), 0, 7, &format!("past the limit, width {width}"))?;
     for pixel in 0..3 {
         whole(&mut p, 0, pixel)?;
     }
-    p.run(Op::Start(0, 0, 3))?;
+    p.run(start(0, 3))?;
     p.run(Op::Turns(vec![0; 6], 6))?;
-    p.run(Op::Start(1, 0, 4))?;
-    while p.table.areas.workers[RECORD + KIND] != Kind::MoveEnd as u32 {
-        p.run(Op::Turn(1))?;
-    }
+    p.run(start(1, 4))?;
+    stand_before(&mut p, 1, Kind::MoveEnd)?;
     let mut stood = vec![];
     for _ in 0..6 {
         stood.push((p.table.areas.workers[NODE], p.table.areas.workers[COUNT]));
@@ -142,9 +178,40 @@ fn past_the_limit(total: &mut Total) -> Compared<()> {
     Ok(())
 }
 
+// Going back inside a Move, which ends at the child of the level that N is set into: worker 0 sets pixel 0 into level 1 and stands at the node of pixel 1 there
+// while worker 1 moves that node down to the last depth.
+fn way_back_in_a_move(width: u32, total: &mut Total) -> Compared<()> {
+    let mut p = opened(total, settings(2, 1, 4, width), 0, 7, &format!("way back in a Move, width {width}"))?;
+    whole(&mut p, 1, 0)?;
+    p.run(start(0, 3))?;
+    for (kind, pixel) in [(Kind::SetLook, 1), (Kind::SetTail, 2)] {
+        stand_before(&mut p, 0, kind)?;
+        assert_eq!(whole(&mut p, 1, pixel)?, (model::NEW, pixel));
+    }
+    stand_before(&mut p, 0, Kind::SetFollow)?;
+    let words = |p: &Pair| [KIND, LEVEL, NODE].map(|k| p.table.areas.workers[k]);
+    assert_eq!((words(&p), p.table.areas.nodes[3]), ([Kind::SetFollow as u32, 1, 1], 2 * model::last_depth(width)));
+    p.run(Op::Turn(0))?;
+    assert_eq!(words(&p), [Kind::SetNext as u32, 2, 1]);
+    while p.run(Op::Turn(0))?.answer == model::OPEN {}
+    for pixel in 0..4 {
+        assert_eq!(whole(&mut p, 1, pixel)?, (model::FOUND, pixel), "pixel {pixel}");
+    }
+    total.add(&p);
+    Ok(())
+}
+
+// turns of worker i up to one of this kind, which its call comes to
+pub fn stand_before(p: &mut Pair, i: u32, kind: Kind) -> Compared<()> {
+    while p.table.areas.workers[RECORD * i as usize + KIND] != kind as u32 {
+        assert_eq!(p.run(Op::Turn(i))?.answer, model::OPEN, "{}: the call ends before {kind:?}", p.what);
+    }
+    Ok(())
+}
+
 // a whole call of worker i alone: its answer and node
 pub fn whole(p: &mut Pair, i: u32, pixel: u32) -> Compared<(u32, u32)> {
-    p.run(Op::Start(i, pixel >> 12, pixel & 4095))?;
+    p.run(start(i, pixel))?;
     for _ in 0..100_000 {
         let q = p.run(Op::Turn(i))?;
         if q.answer != model::OPEN {
@@ -155,11 +222,11 @@ pub fn whole(p: &mut Pair, i: u32, pixel: u32) -> Compared<(u32, u32)> {
 }
 
 // Memory of any content: words of a running table spoiled, one or several, in all three areas and in the settings.
-pub fn spoiled(seed: u64, total: &mut Total) -> Compared<()> {
+pub fn spoiled(width: u32, seed: u64, total: &mut Total) -> Compared<()> {
     let r = &mut Random::new(seed);
-    let s = settings(1 + r.below(4) as u32, r.pick(&[1, 1, 2, 3, 8]), 1 + r.below(24) as u32);
+    let s = settings(1 + r.below(4) as u32, r.pick(&[1, 1, 2, 3, 8]), 1 + r.below(24) as u32, width);
     let more = r.below(3) as usize;
-    let mut p = opened(total, s, more, 3, &format!("spoiled {seed}"))?;
+    let mut p = opened(total, s, more, 3, &format!("spoiled {seed} {width}"))?;
     let spread = r.pick(&[2, 3, 6, 12]);
     for _ in 0..40 {
         for _ in 0..r.below(60) {
@@ -196,13 +263,13 @@ fn exchanged(v: &View) -> Option<Place> {
     let s = v.settings;
     let entry = |pixel: u32| {
         let g = v.word(LEVEL);
-        (g < s.levels_taken && v.get(v.depth_of(g)) <= 7).then(|| v.entry_of(g, pixel))
+        (g < s.levels_taken && v.get(v.depth_of(g)) <= v.last_depth()).then(|| v.entry_of(g, pixel))
     };
     match KINDS.get(v.word(KIND) as usize)? {
         Put => entry(v.word(PIXEL)),
         Append | Close | SetAppend | SetClose => (v.word(NODE) < s.nodes_taken).then(|| v.next_of(v.word(NODE))),
         SetPut => {
-            let remembers = (1..=7).contains(&v.moves()) && (1..=8).contains(&v.word(remembered(v.inner())));
+            let remembers = (1..=v.last_depth() as usize).contains(&v.moves()) && (1..=8).contains(&v.word(remembered(v.inner())));
             let n = remembers.then(|| v.n()).filter(|&n| n < s.nodes_taken)?;
             entry(v.get(v.pixel_of(n)))
         }
@@ -225,7 +292,7 @@ fn spoil_exchange(r: &mut Random, p: &mut Pair) -> bool {
     } else {
         p.put(cell, 2 * g);
         if g < lt && r.below(2) == 0 {
-            p.put(Place::Levels(10 * g as usize), r.pick(&[0, lt - 1, lt, NONE]));
+            p.put(Place::Levels(level_at(s.width, g)), r.pick(&[0, lt - 1, lt, NONE]));
         }
     }
     true
@@ -239,18 +306,25 @@ fn spoil(r: &mut Random, p: &mut Pair) {
         p.put(Place::LevelsTaken, 1 + r.below(model::level_count(&s)) as u32);
         return;
     }
-    let near = [0, 1, 2, 3, 6, 7, 8, 9, lt, 2 * lt, 2 * lt - 2, nt, 2 * nt + 1, (2 * nt).saturating_sub(1), s.limit, s.limit + 1, s.limit + 2];
+    let (last, limit) = (model::last_depth(s.width), s.limit);
+    let bounds =
+        [last - 1, last, last + 1, last + 2, lt, 2 * lt, 2 * lt - 2, nt, 2 * nt + 1, (2 * nt).saturating_sub(1), limit, limit + 1, limit + 2];
     let v = match r.below(8) {
         0 => r.next() as u32,
         1 => r.pick(&[16_777_215, 16_777_216, u32::MAX, u32::MAX - 1, 1 << 31]),
-        _ => r.pick(&near),
+        2 => r.below(4) as u32,
+        _ => r.pick(&bounds),
     };
-    let worker = 128 * r.below(s.workers as u64) as usize;
+    let worker = RECORD * r.below(s.workers as u64) as usize;
     let place = match r.below(4) {
         0 => Place::Nodes(r.below(2 * nt.max(1) as u64) as usize),
-        1 => Place::Levels(r.below(10 * lt as u64) as usize),
+        1 => {
+            // of many entries few are used: half of the time one of the first words
+            let words = if r.below(2) == 0 { 4 } else { model::level_words(s.width) as u64 };
+            Place::Levels(level_at(s.width, r.below(lt as u64) as u32) + r.below(words) as usize)
+        }
         2 => Place::Workers(worker + r.below(10) as usize),
-        _ => Place::Workers(worker + 16 + r.below(34) as usize),
+        _ => Place::Workers(worker + home(0) + r.below(34) as usize),
     };
     p.put(place, v);
 }

@@ -1,8 +1,8 @@
-// Question 6, clause by clause and kind by kind: real calls lead a worker to each kind of turn; there one word is set to values just outside the
-// clause, where the table must answer 6 with nothing changed, and to values just inside, where it must not. The words that a kind does not read are
-// spoilt too. Most clauses need nothing else written; `first` is for those that real calls never come near.
+// Question 6, clause by clause and kind by kind, at each digit width: real calls lead a worker to each kind of turn; there one word is set to values just
+// outside the clause, where the table must answer 6 with nothing changed, and to values just inside, where it must not. The words that a kind does not read
+// are spoilt too. Most clauses need nothing else written; `first` is for those that real calls never come near.
 use crate::coverage::Total;
-use crate::model::{self, Kind, Kind::*, KINDS, NONE};
+use crate::model::{self, Kind, Kind::*, KINDS, NONE, WIDTHS};
 use crate::pair::{Compared, Op, Pair};
 use crate::random::Random;
 use crate::sequences::{go_on, opened, settings};
@@ -80,7 +80,7 @@ impl View<'_> {
         let newest = self.taken_levels() - 1;
         let fits = match self.kind() {
             Follow | SetFollow => is_node(self.read()),
-            Level | SetLevel => self.get(self.depth_of(newest)) <= 6,
+            Level | SetLevel => self.get(self.depth_of(newest)) < self.last_depth(),
             _ => true,
         };
         let mut x = self.number(LEVEL, self.taken_levels()).filter(|_| fits)?;
@@ -173,37 +173,39 @@ impl View<'_> {
         put.extend((0..11).map(|k| (home(n - 1) + k, self.word(home(self.inner()) + k))));
         put.into_iter().map(|(k, v)| (self.at(k), v)).collect()
     }
-    fn seven_moves(&self) -> Option<Spot> {
+    // as many Moves as there may be, one inside another
+    fn most_moves(&self) -> Option<Spot> {
         // SetClose: an exchange that fails needs no further Move
-        let mut x = if self.kind() == SetClose { free(self.cell(), &[1])? } else { free(self.at(MOVES), &[7])? };
-        x.first = self.stacked(7);
+        let mut x = if self.kind() == SetClose { free(self.cell(), &[1])? } else { free(self.at(MOVES), &[self.last_depth()])? };
+        x.first = self.stacked(self.last_depth() as usize);
         Some(x)
     }
-    fn eight_moves(&self) -> Option<Spot> {
-        let mut x = spot(self.at(MOVES), &[8], &[])?;
-        x.first = self.stacked(8);
+    fn too_many_moves(&self) -> Option<Spot> {
+        let mut x = spot(self.at(MOVES), &[self.last_depth() + 1], &[])?;
+        x.first = self.stacked(self.last_depth() as usize + 1);
         Some(x)
     }
-    // the innermost of seven Moves closes a chain
-    fn eighth_move(&self, by: Place, outside: &[u32], inside: &[u32]) -> Option<Spot> {
+    // the innermost of as many Moves as there may be closes a chain
+    fn one_more_move(&self, by: Place, outside: &[u32], inside: &[u32]) -> Option<Spot> {
         let mut x = spot(by, outside, inside)?;
-        x.first = self.stacked(7);
+        x.first = self.stacked(self.last_depth() as usize);
         x.first.push((self.cell(), 2 * self.level()));
         Some(x)
     }
 
-    // R's next leads over eight levels, of which the seventh hangs below H or below the eighth
+    // R's next leads over as many levels as previous words may be read, and one more: the last but one hangs below H or below the last
     fn long_way_back(&self) -> Option<Spot> {
-        let levels: Vec<u32> = (0..self.taken_levels()).filter(|&g| g != self.level()).take(8).collect();
-        if levels.len() < 8 {
+        let most = self.last_depth() as usize;
+        let levels: Vec<u32> = (0..self.taken_levels()).filter(|&g| g != self.level()).take(most + 1).collect();
+        if levels.len() < most + 1 {
             return None;
         }
-        let mut x = spot(self.previous_of(levels[6]), &[levels[7]], &[self.level()])?;
+        let mut x = spot(self.previous_of(levels[most - 1]), &[levels[most]], &[self.level()])?;
         x.first.push((self.cell(), 2 * levels[0]));
-        for k in 0..6 {
+        for k in 0..most - 1 {
             x.first.push((self.previous_of(levels[k]), levels[k + 1]));
         }
-        x.first.push((self.previous_of(levels[7]), self.level()));
+        x.first.push((self.previous_of(levels[most]), self.level()));
         Some(x)
     }
     fn no_level_left(&self) -> Option<Spot> {
@@ -240,9 +242,9 @@ fn clauses() -> Vec<Clause> {
         record("last answer above 3", &[Idle], |v| spot(v.at(ANSWER), &[4, MAX], &[0, 1, 2, 3])),
         record("call's pixel", open, |v| spot(v.at(PIXEL), &[TOP + 1, MAX], &[0, TOP])),
         record("count", &counting, |v| spot(v.at(COUNT), &[0, v.limit() + 2, MAX], &[1, v.limit() + 1])),
-        record("a Move in a search", searching, |v| spot(v.at(MOVES), &[1, 7, MAX], &[0])),
+        record("a Move in a search", searching, |v| spot(v.at(MOVES), &[1, v.last_depth(), MAX], &[0])),
         record("no Move in a Move", moving, |v| spot(v.at(MOVES), &[0], &[v.word(MOVES)])),
-        record("eight Moves", moving, |v| v.eight_moves()),
+        record("one Move too many", moving, |v| v.too_many_moves()),
         record("nodes of an outer Move", moving, |v| {
             v.outer_last()?;
             spot(v.at(remembered(0)), &[0, v.limit() + 1, MAX], &[1, v.limit()])
@@ -277,8 +279,11 @@ fn clauses() -> Vec<Clause> {
         }),
         clause("N's pixel", &[SetLook, SetPut, SetRead], |v| v.pixel_word(v.n())),
         clause("outer N's pixel", &gathering, |v| v.pixel_word(v.word(v.outer_last()?))),
-        clause("depth", &picking, |v| spot(v.depth_of(v.picked()), &[8, MAX], &[0, 7])),
-        clause("new level's depth", &making_levels, |v| spot(v.depth_of(v.level()), &[7, 8, MAX], &[0, 6])),
+        clause("depth", &picking, |v| spot(v.depth_of(v.picked()), &[v.last_depth() + 1, MAX], &[0, v.last_depth()])),
+        clause("new level's depth", &making_levels, |v| {
+            let last = v.last_depth();
+            spot(v.depth_of(v.level()), &[last, last + 1, MAX], &[0, last - 1])
+        }),
         clause("going back meets none", &going_back, |v| {
             let (met, first) = v.another_level_met(MAX)?;
             Some(Spot { first, ..spot(v.previous_of(met), &[NONE], &[v.level()])? })
@@ -290,18 +295,18 @@ fn clauses() -> Vec<Clause> {
             first.extend([newest, newest + 1].into_iter().filter(|&g| v.has_room(g)).map(|g| (v.previous_of(g), v.level())));
             Some(Spot { first, ..spot(v.previous_of(met), &[newest + 1, HALF, MAX - 1], &[newest])? })
         }),
-        clause("going back reads eight words", &going_back, |v| v.long_way_back()),
+        clause("going back reads one word too many", &going_back, |v| v.long_way_back()),
         clause("a chain above the limit", &[ChainNext], |v| {
             if v.word(remembered(v.inner())) != v.limit() {
                 return None;
             }
             spot(v.cell(), &[1, 2 * v.taken_nodes() - 1], &[0, 2 * v.taken_levels() - 2])
         }),
-        clause("an eighth Move, by the Moves", &[SetClose], |v| v.eighth_move(v.at(MOVES), &[7], &[6])),
-        clause("an eighth Move, by R's next", &[SetClose], |v| {
+        clause("one more Move, by the Moves", &[SetClose], |v| v.one_more_move(v.at(MOVES), &[v.last_depth()], &[v.last_depth() - 1])),
+        clause("one more Move, by R's next", &[SetClose], |v| {
             // an exchange that fails needs none, and asks for the word it met
             let (n, g) = (v.taken_nodes(), v.taken_levels());
-            let mut x = v.eighth_move(v.cell(), &[2 * v.level(), 2 * n + 1, 2 * g], &[1, 2 * n - 1])?;
+            let mut x = v.one_more_move(v.cell(), &[2 * v.level(), 2 * n + 1, 2 * g], &[1, 2 * n - 1])?;
             if g - 1 != v.level() {
                 x.first.push((v.previous_of(g - 1), v.level()));
                 x.inside.push(2 * g - 2);
@@ -310,7 +315,7 @@ fn clauses() -> Vec<Clause> {
         }),
         clause("no level left", &making_levels, |v| v.no_level_left()),
         // what is not read is not asked
-        clause("free: seven Moves", moving, |v| v.seven_moves()),
+        clause("free: as many Moves as there may be", moving, |v| v.most_moves()),
         clause("free: a spare level where none is left", &making_levels, |v| {
             let mut x = free(v.at(HELD_LEVEL), &[1, v.taken_levels()])?;
             x.first.push((Place::LevelsTaken, model::level_count(&v.settings) as u32));
@@ -324,7 +329,7 @@ fn clauses() -> Vec<Clause> {
         clause("free: the level's previous, with the exchange done", &exchanging, |v| {
             let mut x = free(v.previous_of(v.level()), &[NONE, v.taken_levels(), MAX - 1])?;
             x.first.push((v.cell(), 2 * v.level()));
-            Some(x).filter(|_| v.moves() < 7)
+            Some(x).filter(|_| v.moves() < v.last_depth() as usize)
         }),
         // these go on at the level met, wherever it hangs
         clause("free: previous of the level met", &[Put, Read, SetPut, SetRead], |v| {
@@ -359,7 +364,7 @@ fn clauses() -> Vec<Clause> {
         clause("free: home", &but(moving, &gathering), |v| free(v.at(home(v.inner())), &[MAX])),
         clause("free: child", &but(moving, &[MoveEnd]), |v| free(v.at(child(v.inner())), &[MAX])),
         clause("free: the level's depth", &[Take, TakeTail, Tail, Append, Close, Follow, SetNext, SetTail, SetAppend, SetClose, SetFollow], |v| {
-            free(v.depth_of(v.level()), &[8, MAX])
+            free(v.depth_of(v.level()), &[v.last_depth() + 1, MAX])
         }),
         clause("free: the level's previous", &but(open, &[Follow, SetFollow]), |v| free(v.previous_of(v.level()), &[NONE, MAX - 1])),
         clause("free: R's pixel", &at_r, |v| free(v.pixel_of(v.word(NODE)), &[MAX])),
@@ -368,43 +373,45 @@ fn clauses() -> Vec<Clause> {
     ]
 }
 
-// how often each clause is tried at each kind, and how often of these in one table
-const OFTEN: u64 = 60;
+// how often each clause is tried at each kind and width, and how often of these in one table
+const OFTEN: u64 = 15;
 const IN_ONE: u64 = 3;
 
-// What each kind was tried with; clauses never reached are given back.
+// how often each clause was tried at each kind
+type Tried = Vec<[u64; 23]>;
+
+// What each kind was tried with, how often at each width; clauses never reached there are given back.
 pub fn aimed(seed: u64, total: &mut Total) -> Compared<Vec<String>> {
-    let clauses = clauses();
-    let tried = tables(seed, total, &clauses)?;
+    let tried = WIDTHS.iter().map(|&width| one_width(width, seed, total)).collect::<Compared<Vec<Tried>>>()?;
     let mut missing = vec![];
-    for (c, t) in clauses.iter().zip(&tried) {
-        let kinds: Vec<String> = c.kinds.iter().map(|&k| format!("{k:?} {}", t[k as usize])).collect();
+    println!("6 by clause and kind, so often at widths {WIDTHS:?}:");
+    for (n, c) in clauses().iter().enumerate() {
+        let times = |kind: Kind| tried.iter().map(move |t| t[n][kind as usize]);
+        let kinds: Vec<String> = c.kinds.iter().map(|&k| format!("{k:?}{}", times(k).map(|t| format!(" {t}")).collect::<String>())).collect();
         println!("6, {}: {}", c.name, kinds.join(", "));
-        missing.extend(c.kinds.iter().filter(|&&k| t[k as usize] == 0).map(|k| format!("6 of {k:?}: {}", c.name)));
+        for (kind, width) in c.kinds.iter().flat_map(|&k| WIDTHS.into_iter().zip(times(k)).filter(|x| x.1 == 0).map(move |x| (k, x.0))) {
+            missing.push(format!("6 of {kind:?} at width {width}: {}", c.name));
+        }
     }
     Ok(missing)
 }
 
-// The same without a word, for the wrong versions.
-pub fn silent(seed: u64, total: &mut Total) -> Compared<()> {
-    tables(seed, total, &clauses()).map(|_| ())
-}
-
-// how often each clause was tried at each kind
-fn tables(seed: u64, total: &mut Total, clauses: &[Clause]) -> Compared<Vec<[u64; 23]>> {
+// At one width and without a word: for the wrong versions too.
+pub fn one_width(width: u32, seed: u64, total: &mut Total) -> Compared<Tried> {
+    let clauses = clauses();
     let mut tried = vec![[0u64; 23]; clauses.len()];
     let r = &mut Random::new(seed);
     for n in 0..300 {
         if clauses.iter().zip(&tried).all(|(c, t)| c.kinds.iter().all(|&k| t[k as usize] >= OFTEN)) {
             break;
         }
-        one_table(r, total, clauses, &mut tried, &format!("six {seed}, table {n}"))?;
+        one_table(r, width, total, &clauses, &mut tried, &format!("six {seed} {width}, table {n}"))?;
     }
     Ok(tried)
 }
 
-fn one_table(r: &mut Random, total: &mut Total, clauses: &[Clause], tried: &mut [[u64; 23]], what: &str) -> Compared<()> {
-    let s = settings(2 + r.below(4) as u32, r.pick(&[1, 1, 2, 2, 3, 8]), 6 + r.below(26) as u32);
+fn one_table(r: &mut Random, width: u32, total: &mut Total, clauses: &[Clause], tried: &mut Tried, what: &str) -> Compared<()> {
+    let s = settings(2 + r.below(4) as u32, r.pick(&[1, 1, 2, 2, 3, 8]), 6 + r.below(26) as u32, width);
     let mut p = opened(total, s, 0, 6, what)?;
     let spread = r.pick(&[2, 3, 4, 6]);
     let mut here = vec![[0u64; 23]; clauses.len()];

@@ -11,6 +11,7 @@ struct CSettings {
     nodes: u32,
     nodes_taken: u32,
     levels_taken: u32,
+    width: u32,
 }
 
 #[repr(C)]
@@ -52,12 +53,13 @@ pub struct Table {
 }
 
 fn to_c(s: &Settings) -> CSettings {
-    CSettings { workers: s.workers, limit: s.limit, nodes: s.nodes, nodes_taken: s.nodes_taken, levels_taken: s.levels_taken }
+    CSettings { workers: s.workers, limit: s.limit, nodes: s.nodes, nodes_taken: s.nodes_taken, levels_taken: s.levels_taken, width: s.width }
 }
 
 fn from_c(r: CReply) -> Reply {
     let s = r.settings;
-    let settings = Settings { workers: s.workers, limit: s.limit, nodes: s.nodes, nodes_taken: s.nodes_taken, levels_taken: s.levels_taken };
+    let (workers, limit, nodes, width) = (s.workers, s.limit, s.nodes, s.width);
+    let settings = Settings { workers, limit, nodes, nodes_taken: s.nodes_taken, levels_taken: s.levels_taken, width };
     let exchanges = Exchanges { done: r.exchanges_done, failed: r.exchanges_failed };
     Reply { number: r.number, answer: r.answer, node: r.node, turns: r.turns, exchanges, settings }
 }

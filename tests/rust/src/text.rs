@@ -1,7 +1,7 @@
 // The text program coded apart, from document 01 and its readings, over the model of the table: input bytes to printed bytes. Nothing here is taken
 // from the Rattle code.
-use crate::model::{Model, Reply, Seen, Settings, FOUND, FULL, NEW};
-use crate::sequences::{settings, sized};
+use crate::model::{Areas, Model, Reply, Seen, Settings, FOUND, FULL, NEW};
+use crate::sequences::{self, sized};
 
 // What the document says of the text, as values: a wrong version is one value changed.
 #[derive(Clone, Copy)]
@@ -14,6 +14,7 @@ pub struct Rules {
     pub unended_line_is_read: bool,
     pub second_s_opens: bool,
     pub most_nodes: u32,
+    pub width: u32,
     pub number_of_first_line: usize,
     pub pixel_is_asked_first: bool,
     pub pixel_of_refused_start: bool,
@@ -30,12 +31,18 @@ pub const DOCUMENT: Rules = Rules {
     unended_line_is_read: false,
     second_s_opens: false,
     most_nodes: 128,
+    width: 3,
     number_of_first_line: 1,
     pixel_is_asked_first: false,
     pixel_of_refused_start: false,
     full_is_refused: false,
     end_after_refused_first_line: false,
 };
+
+// "The text program keeps width 3."
+pub fn settings(workers: u32, limit: u32, nodes: u32) -> Settings {
+    sequences::settings(workers, limit, nodes, DOCUMENT.width)
+}
 
 pub const HEADER: &str = "worker,row,column,answer,node\n";
 
@@ -47,7 +54,8 @@ pub struct Printed {
 
 pub fn printed(rules: &Rules, input: &[u8]) -> Printed {
     // the first line opens the table
-    let closed = Model::new(settings(0, 0, 0), sized(&settings(0, 1, 0), 0, 0));
+    let none = Areas { nodes: vec![], levels: vec![], workers: vec![] };
+    let closed = Model::new(settings(0, 0, 0), none);
     let mut p = Program { rules, model: closed, calls: [(0, 0); 16], output: HEADER.to_string() };
     p.run(input);
     Printed { output: p.output.into_bytes(), seen: p.model.seen }
@@ -156,6 +164,7 @@ impl Program<'_> {
             return Err(1);
         }
         // limit 0 has no level count; the opening refuses it
+        let s = Settings { width: self.rules.width, ..s };
         let areas = sized(&Settings { limit: s.limit.max(1), ..s }, 0, 0);
         self.model.settings = s;
         self.model.areas = areas;

@@ -3,7 +3,7 @@
 use crate::runs::Ran;
 use crate::text::{printed, Rules, DOCUMENT};
 
-const WRONG: [(&str, Rules); 15] = [
+const WRONG: [(&str, Rules); 18] = [
     ("a leading zero is accepted", Rules { leading_zero: true, ..DOCUMENT }),
     ("five digits are accepted", Rules { most_digits: 5, ..DOCUMENT }),
     ("three digits at most", Rules { most_digits: 3, ..DOCUMENT }),
@@ -14,6 +14,9 @@ const WRONG: [(&str, Rules); 15] = [
     ("65,537 bytes are read", Rules { longest_input: 65_537, ..DOCUMENT }),
     ("65,536 bytes are too long", Rules { longest_input: 65_535, ..DOCUMENT }),
     ("129 nodes are accepted", Rules { most_nodes: 129, ..DOCUMENT }),
+    ("digits of 2 bits", Rules { width: 2, ..DOCUMENT }),
+    ("digits of 4 bits", Rules { width: 4, ..DOCUMENT }),
+    ("digits of 6 bits", Rules { width: 6, ..DOCUMENT }),
     ("lines are counted from 0", Rules { number_of_first_line: 0, ..DOCUMENT }),
     ("5 before 4", Rules { pixel_is_asked_first: true, ..DOCUMENT }),
     ("a row has the pixel of a refused start", Rules { pixel_of_refused_start: true, ..DOCUMENT }),

@@ -1,7 +1,8 @@
 // Random texts, each from a seed of its own: tables and turn orders in which chains close and Moves happen, half of the texts damaged.
 use crate::model::{Model, Reply, Settings, OPEN};
 use crate::random::Random;
-use crate::sequences::{clustered, settings, sized};
+use crate::sequences::{clustered, sized};
+use crate::text::settings;
 use crate::words::{KIND, RECORD};
 
 pub fn text(seed: u64) -> Vec<u8> {

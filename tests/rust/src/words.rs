@@ -1,7 +1,7 @@
 // A worker's words by name (docs/LAYOUT.md), and what they say: for the tests that spoil one word and for the wrong versions.
-use crate::model::{Areas, Kind, Settings, KINDS};
+pub use crate::model::WORKER_WORDS as RECORD;
+use crate::model::{self, Areas, Kind, Settings, KINDS};
 
-pub const RECORD: usize = 128;
 pub const KIND: usize = 0;
 pub const PIXEL: usize = 1;
 pub const LEVEL: usize = 2;
@@ -26,8 +26,6 @@ pub fn node(j: usize, k: usize) -> usize {
     19 + 11 * j + k
 }
 
-// document 01's divisors
-pub const DIVISORS: [u32; 8] = [2_097_152, 262_144, 32_768, 4_096, 512, 64, 8, 1];
 pub const TOP: u32 = 16_777_215;
 
 // One number of the table's memory, by the index of its word.
@@ -48,6 +46,11 @@ impl Place {
             Place::LevelsTaken => &mut settings.levels_taken,
         }
     }
+}
+
+// the first word of level g
+pub fn level_at(width: u32, g: u32) -> usize {
+    model::level_words(width) * g as usize
 }
 
 pub fn is_node(word: u32) -> bool {
@@ -96,15 +99,21 @@ impl View<'_> {
     pub fn next_of(&self, i: u32) -> Place {
         Place::Nodes(2 * i as usize + 1)
     }
+    pub fn width(&self) -> u32 {
+        self.settings.width
+    }
+    pub fn last_depth(&self) -> u32 {
+        model::last_depth(self.width())
+    }
     pub fn previous_of(&self, g: u32) -> Place {
-        Place::Levels(10 * g as usize)
+        Place::Levels(level_at(self.width(), g))
     }
     pub fn depth_of(&self, g: u32) -> Place {
-        Place::Levels(10 * g as usize + 1)
+        Place::Levels(level_at(self.width(), g) + 1)
     }
     pub fn entry_of(&self, g: u32, pixel: u32) -> Place {
-        let digit = pixel / DIVISORS[self.get(self.depth_of(g)) as usize] % 8;
-        Place::Levels(10 * g as usize + 2 + digit as usize)
+        let digit = model::digit(self.width(), self.get(self.depth_of(g)), pixel);
+        Place::Levels(level_at(self.width(), g) + 2 + digit as usize)
     }
     pub fn get(&self, place: Place) -> u32 {
         match place {

@@ -1,7 +1,5 @@
 -- `areas::depth_at` meets its contract.
 -- Relies on Laws.
-use Rattle.settings.specs.Sizes.{levelWords}
-use Rattle.words.specs.Digits.{base}
 use Rattle.areas.proofs.Laws.{depth-steps}
 use borrow.Author.Needs.{needs}
 use Rattle.areas.proofs.depth_at.Statement.{statement}
@@ -14,7 +12,6 @@ at-requires : tie.Need-at-requires
 at-requires c κs = search needs
 
 returns : tie.Need-returns
-unfolding levelWords base
 returns c = search (needs, depth-steps)
 
 pub depth-at-spec : {M : Type 1} → statement M

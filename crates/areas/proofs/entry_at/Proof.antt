@@ -1,7 +1,5 @@
 -- `areas::entry_at` meets its contract.
 -- Relies on Laws.
-use Rattle.settings.specs.Sizes.{levelWords}
-use Rattle.words.specs.Digits.{base}
 use Rattle.areas.proofs.Laws.{entry-steps}
 use borrow.Author.Needs.{needs}
 use Rattle.areas.proofs.entry_at.Statement.{statement}
@@ -17,7 +15,6 @@ at-requires : tie.Need-at-requires
 at-requires c κs = search needs
 
 returns : tie.Need-returns
-unfolding levelWords base
 returns c = search (needs, entry-steps)
 
 pub entry-at-spec : {M : Type 1} → statement M

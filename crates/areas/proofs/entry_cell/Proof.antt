@@ -8,11 +8,11 @@ use Rattle.areas.proofs.entry_cell.Tie as tie
 depth-at-requires : tie.Need-depth-at-requires
 depth-at-requires c κs = search needs
 
-octal-digit-requires : tie.Need-octal-digit-requires
-octal-digit-requires c κs = search needs
+digit-requires : tie.Need-digit-requires
+digit-requires c κs = search needs
 
 returns : tie.Need-returns
 returns c = search (needs, entry-cell-steps)
 
 pub entry-cell-spec : {M : Type 1} → statement M
-entry-cell-spec = tie.close (tie.spec depth-at-requires octal-digit-requires returns)
+entry-cell-spec = tie.close (tie.spec depth-at-requires digit-requires returns)

@@ -1,7 +1,5 @@
 -- `areas::fill_level` meets its contract.
 -- Relies on Laws.
-use Rattle.words.specs.Digits.{base}
-use Rattle.settings.specs.Sizes.{levelWords}
 use Rattle.areas.proofs.Laws.{fill-level-steps}
 use borrow.Author.Needs.{needs}
 use Rattle.areas.proofs.fill_level.Statement.{statement}
@@ -12,6 +10,9 @@ fill-head-requires c κs = search needs
 
 level-place-requires : tie.Need-level-place-requires
 level-place-requires c κs = search needs
+
+entries-requires : tie.Need-entries-requires
+entries-requires c κs = search needs
 
 cast-fill-words : tie.Need-cast-fill-words
 cast-fill-words c = search needs
@@ -26,7 +27,6 @@ same-length : tie.Need-same-length
 same-length c = search needs
 
 returns : tie.Need-returns
-unfolding levelWords base
 returns c = search (needs, fill-level-steps)
 
 pub fill-level-spec : {M : Type 1} → statement M
@@ -35,6 +35,7 @@ fill-level-spec =
     (tie.spec
     fill-head-requires
     level-place-requires
+    entries-requires
     cast-fill-words
     level-ref-requires
     fill-words-requires

@@ -1,7 +1,5 @@
 -- `areas::previous_at` meets its contract.
 -- Relies on Laws.
-use Rattle.settings.specs.Sizes.{levelWords}
-use Rattle.words.specs.Digits.{base}
 use Rattle.areas.proofs.Laws.{previous-steps}
 use borrow.Author.Needs.{needs}
 use Rattle.areas.proofs.previous_at.Statement.{statement}
@@ -14,7 +12,6 @@ at-requires : tie.Need-at-requires
 at-requires c κs = search needs
 
 returns : tie.Need-returns
-unfolding levelWords base
 returns c = search (needs, previous-steps)
 
 pub previous-at-spec : {M : Type 1} → statement M

@@ -1,7 +1,5 @@
 -- `areas::set_cell` meets its contract.
 -- Relies on Laws.
-use Rattle.settings.specs.Sizes.{levelWords}
-use Rattle.words.specs.Digits.{base}
 use Rattle.areas.proofs.Laws.{set-entry, set-next}
 use borrow.Author.Needs.{needs}
 use Rattle.areas.proofs.set_cell.Statement.{statement}
@@ -32,7 +30,6 @@ same-length : tie.Need-same-length
 same-length c = search needs
 
 returns : tie.Need-returns
-unfolding levelWords base
 returns c = search (needs, set-entry)
 
 same-length-2 : tie.Need-same-length-2

@@ -1,7 +1,7 @@
 -- `leafdrum::main` is safe, and its arrays are the memory that the program lends.
 -- Relies on the sizes of a table for 128 nodes and 16 workers.
 use Rattle.words.specs.Digits.{base, depths}
-use Rattle.settings.specs.Sizes.{levelWords, maxMoves, workerWords, levelCount, fresh}
+use Rattle.settings.specs.Sizes.{levelWords, levelCount, fresh}
 use borrow.Author.Needs.{needs}
 use Rattle.leafdrum.proofs.main.Statement.{statement}
 use Rattle.leafdrum.proofs.main.Tie as tie
@@ -28,7 +28,7 @@ slice-aggregate-put-all-4 : tie.Need-slice-aggregate-put-all-4
 slice-aggregate-put-all-4 c = search needs
 
 put-all-requires : tie.Need-put-all-requires
-unfolding levelWords workerWords base maxMoves levelCount depths fresh
+unfolding levelWords base levelCount depths fresh
 put-all-requires c κs = search needs
 
 returns : tie.Need-returns

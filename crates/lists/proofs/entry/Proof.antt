@@ -19,7 +19,7 @@ open-entry-requires : tie.Need-open-entry-requires
 open-entry-requires c κs = let e = c .before .before .before in
     let i = e .before in
     let p = i .before .before .before .before .before .pre in
-    (p .0, (p .1 .0, (p .1 .1 .0, (p .1 .1 .1 .0, (p .1 .1 .1 .1, not-idle _ _ _ (i .idle-at .ensures) (e .if1 .left))))))
+    (p .0, (p .1 .0, (p .1 .1 .0, (p .1 .1 .1 .0, (p .1 .1 .1 .1, not-idle _ _ (i .idle-at .ensures) (e .if1 .left))))))
 
 same-length : tie.Need-same-length
 same-length c = search needs
@@ -28,7 +28,7 @@ returns : tie.Need-returns
 returns c = let e = c .before .before .before in
     let i = e .before in
     let p = i .before .before .before .before .before .pre in
-    entry-idle 3 _ _ _ _ _ _ (p .1 .1 .0) (p .0) (p .1 .1 .1 .0) (p .1 .1 .1 .1) (c .idle-entry .ensures) (c .before .answer-at .ensures) (i .idle-at .ensures) (e .if1 .taken)
+    entry-idle _ _ _ _ _ _ _ (p .1 .1 .0) (p .0) (p .1 .1 .1 .0) (p .1 .1 .1 .1) (c .idle-entry .ensures) (c .before .answer-at .ensures) (i .idle-at .ensures) (e .if1 .taken)
 
 same-length-2 : tie.Need-same-length-2
 same-length-2 c = search needs

@@ -1,6 +1,7 @@
 -- `lists::open_entry` meets its contract.
 -- Relies on the ways through a list of turns.
 use Rattle.lists.proofs.Ways.{entry-sized, entry-inside, entry-open}
+use mathlib.Core.Path.{refl}
 use borrow.Author.Needs.{needs}
 use Rattle.lists.proofs.open_entry.Statement.{statement}
 use Rattle.lists.proofs.open_entry.Tie as tie
@@ -30,7 +31,7 @@ returns : tie.Need-returns
 returns c = let o = c .before .before .before .before .before .before .before in
     let w = o .before .before .before .before in
     let p = w .before .before .before .before .pre in
-    entry-open 3 _ _ _ _ _ _ (p .1 .1 .0) (p .0) (p .1 .1 .1 .0) (p .1 .1 .1 .1 .0) (c .tallied .ensures) (o .open-here .ensures) (w .with-counts .ensures) (p .1 .1 .1 .1 .1)
+    entry-open _ _ _ _ _ _ _ (p .1 .1 .0) (p .0) (p .1 .1 .1 .0) (p .1 .1 .1 .1 .0) (c .tallied .ensures) (o .open-here .ensures) (w .with-counts .ensures) refl (p .1 .1 .1 .1 .1)
 
 pub open-entry-spec : {M : Type 1} → statement M
 open-entry-spec =

@@ -10,7 +10,7 @@ use Rattle.areas.specs.Memory.{areas}
 use Rattle.rules.specs.Lists.{state}
 use Rattle.lists.specs.Cut.{run, countedBy, ranOf, ranList}
 use Rattle.rules.proofs.Three.{Three}
-use Rattle.lists.proofs.Ways.{begin-three, begin-list, goes-left, goes-zero, of-three, entry-below, entry-fits, entry-keeps, list-more, list-all, list-over}
+use Rattle.lists.proofs.Ways.{begin-three, begin-list, left-of, of-three, entry-below, entry-fits, entry-keeps, list-more, list-all, list-left, list-six}
 use borrow.Author.Needs.{needs}
 use Rattle.lists.proofs.run_list.Statement.{statement}
 use Rattle.lists.proofs.run_list.Tie as tie
@@ -23,17 +23,15 @@ Inv-loop s list limit nodes₀ levels₀ workers₀ t₀ k₀ nodes levels worke
     × (length workers ≡ length workers₀)
     × (every (λ i. ltb i (s .workers)) list ≡ true)
     × (t .done + t .failed + t .left ≤ 4294967295)
-    × Three 3 (s .workers) (state (countedBy s t) (areas nodes levels workers))
-    × (ranList 3 (drop k list) (ranOf s t (areas nodes levels workers)) ≡ ranList 3 list (run 0 (state s (areas nodes₀ levels₀ workers₀)) limit 0 0))
+    × Three (s .width) (s .workers) (state (countedBy s t) (areas nodes levels workers))
+    × (t .number ≡ 0)
+    × (ranList (s .width) (drop k list) (ranOf s t (areas nodes levels workers)) ≡ ranList (s .width) list (run 0 (state s (areas nodes₀ levels₀ workers₀)) limit 0 0))
 
 abbrev μ-loop : tie.MeasureT-loop
 μ-loop s list limit nodes₀ levels₀ workers₀ t₀ k₀ nodes levels workers t k = length list - k
 
 loop-holds : tie.Need-loop-holds Inv-loop μ-loop
 loop-holds c = search (needs, begin-three, begin-list)
-
-is-over-requires : tie.Need-is-over-requires Inv-loop μ-loop
-is-over-requires c κs = search needs
 
 same-length : tie.Need-same-length Inv-loop μ-loop
 same-length c = search needs
@@ -45,7 +43,7 @@ same-length-3 : tie.Need-same-length-3 Inv-loop μ-loop
 same-length-3 c = search needs
 
 returns : tie.Need-returns Inv-loop μ-loop
-returns c = search (needs, list-over)
+returns c = search (needs, list-left)
 
 shared-slice-read-wide : tie.Need-shared-slice-read-wide Inv-loop μ-loop
 shared-slice-read-wide c = search needs
@@ -58,21 +56,23 @@ entry-requires c κs = let w = c .before .before .before in
     let e = w .before .before in
     let d = e .before .before in
     let v = d .before .loop .inv in
-    let o = e .before .is-over .ensures in
-    (goes-left _ o (e .if1 .left), (v .5, (goes-zero _ o (e .if1 .left), (of-three 3 _ _ _ _ (v .6), entry-below _ _ (v .4) (w .wide .ensures) (d .loop-test .taken)))))
+    (left-of (e .if1 .left), (v .5, (v .7, (of-three _ _ _ _ _ (v .6), entry-below _ _ (v .4) (w .wide .ensures) (d .loop-test .taken)))))
 
 add-k : tie.Need-add-k Inv-loop μ-loop
-add-k c = search needs
+add-k c = let e = c .before .before .before .before .before .before .before .before .before .before .before .before .before .before in
+    let d = e .before .before .loop-test .taken in
+    let g = e .before .before .before .before .before .before .before .shared-slice-known .given in
+    search needs
 
 loop-less : tie.Need-loop-less Inv-loop μ-loop
 loop-less c = search needs
 
 loop-again : tie.Need-loop-again Inv-loop μ-loop
-loop-again c = let b = c .before .before .before .before .before .before in
+loop-again c = let b = c .before .before .before .before .before .before .before .before in
     let w = b .before .before .before .before in
     let d = w .before .before .before .before in
     let v = d .before .loop .inv in
-    (search needs, search needs, search needs, search needs, search needs, entry-fits 3 _ _ _ _ _ _ _ (b .entry .ensures) (v .5), entry-keeps 3 _ _ _ _ _ _ (b .entry .ensures) (v .6), list-more 3 _ _ _ (b .entry .ensures) (w .wide .ensures) (v .7) (d .loop-test .taken))
+    (search needs, search needs, search needs, search needs, search needs, entry-fits _ _ _ _ _ _ _ _ (b .entry .ensures) (v .5), entry-keeps _ _ _ _ _ _ _ (b .entry .ensures) (v .6), search needs, list-more _ _ _ _ (b .entry .ensures) (w .wide .ensures) (v .8) (d .loop-test .taken))
 
 same-length-4 : tie.Need-same-length-4 Inv-loop μ-loop
 same-length-4 c = search needs
@@ -84,7 +84,22 @@ same-length-6 : tie.Need-same-length-6 Inv-loop μ-loop
 same-length-6 c = search needs
 
 returns-2 : tie.Need-returns-2 Inv-loop μ-loop
-returns-2 c = search (needs, list-all)
+returns-2 c = let b = c .before .before .before .before .before .before .before .before in
+    let w = b .before .before .before .before in
+    let d = w .before .before .before .before in
+    list-six _ _ _ _ _ (list-more _ _ _ _ (b .entry .ensures) (w .wide .ensures) (d .before .loop .inv .8) (d .loop-test .taken)) (c .if2 .left)
+
+same-length-7 : tie.Need-same-length-7 Inv-loop μ-loop
+same-length-7 c = search needs
+
+same-length-8 : tie.Need-same-length-8 Inv-loop μ-loop
+same-length-8 c = search needs
+
+same-length-9 : tie.Need-same-length-9 Inv-loop μ-loop
+same-length-9 c = search needs
+
+returns-3 : tie.Need-returns-3 Inv-loop μ-loop
+returns-3 c = search (needs, list-all)
 
 pub run-list-spec : {M : Type 1} → statement M
 run-list-spec =
@@ -93,7 +108,6 @@ run-list-spec =
     Inv-loop
     μ-loop
     loop-holds
-    is-over-requires
     same-length
     same-length-2
     same-length-3
@@ -107,4 +121,8 @@ run-list-spec =
     same-length-4
     same-length-5
     same-length-6
-    returns-2)
+    returns-2
+    same-length-7
+    same-length-8
+    same-length-9
+    returns-3)

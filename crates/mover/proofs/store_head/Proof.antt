@@ -41,7 +41,7 @@ same-length c = search needs
 returns : tie.Need-returns
 returns c =
     let at = c .before .before .before .before .before .before .before .before .before .before .before .before .before .before .before .before .before .before .worker-place .ensures .0 in
-    head-way 3 _ _ _ _ (c .before .before .put3 .ensures) (c .before .before .before .before .before .before .put2 .ensures) (c .before .before .before .before .before .before .before .before .before .before .copy-in .ensures) (c .before .before .before .before .before .before .before .before .before .before .before .before .before .before .before .put .ensures) at (c .before .before .before .before .before .before .before .before .before .before .before .before .before .before .before .before .kind-no .ensures)
+    head-way _ _ _ _ (c .before .before .put3 .ensures) (c .before .before .before .before .before .before .put2 .ensures) (c .before .before .before .before .before .before .before .before .before .before .copy-in .ensures) (c .before .before .before .before .before .before .before .before .before .before .before .before .before .before .before .put .ensures) at (c .before .before .before .before .before .before .before .before .before .before .before .before .before .before .before .before .kind-no .ensures)
 
 pub store-head-spec : {M : Type 1} → statement M
 store-head-spec =

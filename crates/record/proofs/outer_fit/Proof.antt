@@ -11,7 +11,7 @@ use Rattle.record.proofs.outer_fit.Statement.{statement}
 use Rattle.record.proofs.outer_fit.Tie as tie
 
 abbrev Inv-loop : tie.InvT-loop
-Inv-loop s words i n ok₀ j₀ ok j = (j ≤ n) × (ok ≡ every (outerFits s) (firstMoves 3 words i j))
+Inv-loop s words i n ok₀ j₀ ok j = (j ≤ n) × (ok ≡ every (outerFits s) (firstMoves words i j))
 
 abbrev μ-loop : tie.MeasureT-loop
 μ-loop s words i n ok₀ j₀ ok j = n - j

@@ -1,8 +1,6 @@
 -- `record::worker_place` meets its contract.
 -- Relies on words for the digits, on settings for sizes.
 use Rattle.record.specs.Layout.{workerPlace}
-use Rattle.settings.specs.Sizes.{workerWords, maxMoves}
-use Rattle.words.specs.Digits.{depths}
 use borrow.Author.Needs.{needs}
 use Rattle.record.proofs.worker_place.Statement.{statement}
 use Rattle.record.proofs.worker_place.Tie as tie
@@ -14,7 +12,7 @@ mul-result : tie.Need-mul-result
 mul-result c = search needs
 
 returns : tie.Need-returns
-unfolding workerPlace workerWords maxMoves depths
+unfolding workerPlace
 returns c = search needs
 
 pub worker-place-spec : {M : Type 1} → statement M

@@ -6,23 +6,22 @@ use Rattle.words.proofs.Auto.{tests}
 use Rattle.words.proofs.Choice.{via}
 use Rattle.words.specs.Digits.{depths}
 use Rattle.rules.specs.Steps.{backMeets}
-use Rattle.steps.proofs.Back.{meets-here, meets-not, meets-further, meets-last}
+use Rattle.steps.proofs.Back.{meets-begins, meets-here, meets-not, meets-further, meets-last}
 use borrow.Author.Needs.{needs}
 use Rattle.steps.proofs.back_meets.Statement.{statement}
 use Rattle.steps.proofs.back_meets.Tie as tie
 
 abbrev Inv-loop : tie.InvT-loop
-Inv-loop taken levels g t at₀ n₀ at n = backMeets 3 taken levels n g at ≡ backMeets 3 taken levels (depths 3 - 1) g t
+Inv-loop w taken levels g t at₀ n₀ at n = backMeets w taken levels n g at ≡ backMeets w taken levels (depths w - 1) g t
 
 abbrev μ-loop : tie.MeasureT-loop
-μ-loop taken levels g t at₀ n₀ at n = n
+μ-loop w taken levels g t at₀ n₀ at n = n
 
-sub-n : tie.Need-sub-n Inv-loop μ-loop
-sub-n c = search needs
+last-depth-requires : tie.Need-last-depth-requires Inv-loop μ-loop
+last-depth-requires c κs = search needs
 
 loop-holds : tie.Need-loop-holds Inv-loop μ-loop
-unfolding depths
-loop-holds c = search needs
+loop-holds c = search (needs, meets-begins)
 
 previous-at-requires : tie.Need-previous-at-requires Inv-loop μ-loop
 previous-at-requires c κs = search needs
@@ -33,8 +32,8 @@ returns c = search (tests, meets-here)
 lt-requires : tie.Need-lt-requires Inv-loop μ-loop
 lt-requires c κs = search needs
 
-sub-n-2 : tie.Need-sub-n-2 Inv-loop μ-loop
-sub-n-2 c = search needs
+sub-n : tie.Need-sub-n Inv-loop μ-loop
+sub-n c = search needs
 
 loop-less : tie.Need-loop-less Inv-loop μ-loop
 loop-less c = search needs
@@ -54,12 +53,12 @@ back-meets-spec =
     (tie.spec
     Inv-loop
     μ-loop
-    sub-n
+    last-depth-requires
     loop-holds
     previous-at-requires
     returns
     lt-requires
-    sub-n-2
+    sub-n
     loop-less
     loop-again
     returns-2

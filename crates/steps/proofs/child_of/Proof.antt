@@ -5,23 +5,22 @@ use Prim.Native.Nat.{_-_}
 use Rattle.words.proofs.Auto.{tests}
 use Rattle.words.specs.Digits.{depths}
 use Rattle.rules.specs.Steps.{childOf}
-use Rattle.steps.proofs.Back.{child-here, child-further, child-last}
+use Rattle.steps.proofs.Back.{child-begins, child-here, child-further, child-last}
 use borrow.Author.Needs.{needs}
 use Rattle.steps.proofs.child_of.Statement.{statement}
 use Rattle.steps.proofs.child_of.Tie as tie
 
 abbrev Inv-loop : tie.InvT-loop
-Inv-loop levels g t at₀ n₀ at n = childOf 3 levels n g at ≡ childOf 3 levels (depths 3 - 1) g t
+Inv-loop w levels g t at₀ n₀ at n = childOf w levels n g at ≡ childOf w levels (depths w - 1) g t
 
 abbrev μ-loop : tie.MeasureT-loop
-μ-loop levels g t at₀ n₀ at n = n
+μ-loop w levels g t at₀ n₀ at n = n
 
-sub-n : tie.Need-sub-n Inv-loop μ-loop
-sub-n c = search needs
+last-depth-requires : tie.Need-last-depth-requires Inv-loop μ-loop
+last-depth-requires c κs = search needs
 
 loop-holds : tie.Need-loop-holds Inv-loop μ-loop
-unfolding depths
-loop-holds c = search needs
+loop-holds c = search (needs, child-begins)
 
 previous-at-requires : tie.Need-previous-at-requires Inv-loop μ-loop
 previous-at-requires c κs = search needs
@@ -29,8 +28,8 @@ previous-at-requires c κs = search needs
 returns : tie.Need-returns Inv-loop μ-loop
 returns c = search (tests, child-here)
 
-sub-n-2 : tie.Need-sub-n-2 Inv-loop μ-loop
-sub-n-2 c = search needs
+sub-n : tie.Need-sub-n Inv-loop μ-loop
+sub-n c = search needs
 
 loop-less : tie.Need-loop-less Inv-loop μ-loop
 loop-less c = search needs
@@ -47,11 +46,11 @@ child-of-spec =
     (tie.spec
     Inv-loop
     μ-loop
-    sub-n
+    last-depth-requires
     loop-holds
     previous-at-requires
     returns
-    sub-n-2
+    sub-n
     loop-less
     loop-again
     returns-2)

@@ -9,14 +9,17 @@ use Rattle.steps.proofs.level_left.Tie as tie
 depth-at-requires : tie.Need-depth-at-requires
 depth-at-requires c κs = search needs
 
-le-requires : tie.Need-le-requires
-le-requires c κs = search needs
+last-depth-requires : tie.Need-last-depth-requires
+last-depth-requires c κs = search needs
+
+lt-requires : tie.Need-lt-requires
+lt-requires c κs = search needs
 
 level-count-requires : tie.Need-level-count-requires
 level-count-requires c κs = search needs
 
-lt-requires : tie.Need-lt-requires
-lt-requires c κs = search needs
+lt-requires-2 : tie.Need-lt-requires-2
+lt-requires-2 c κs = search needs
 
 and-requires : tie.Need-and-requires
 and-requires c κs = search needs
@@ -35,9 +38,10 @@ level-left-spec =
     tie.close
     (tie.spec
     depth-at-requires
-    le-requires
-    level-count-requires
+    last-depth-requires
     lt-requires
+    level-count-requires
+    lt-requires-2
     and-requires
     and-requires-2
     returns

@@ -2,7 +2,6 @@
 -- Relies on Asked.
 use Rattle.steps.proofs.Asked.{ask-most}
 use Rattle.rules.specs.Asked.{picksIn}
-use Rattle.words.specs.Digits.{depths}
 use borrow.Author.Needs.{needs}
 use Rattle.steps.proofs.picks_in.Statement.{statement}
 use Rattle.steps.proofs.picks_in.Tie as tie
@@ -13,6 +12,9 @@ level-taken-requires c κs = search needs
 depth-at-requires : tie.Need-depth-at-requires
 depth-at-requires c κs = search needs
 
+last-depth-requires : tie.Need-last-depth-requires
+last-depth-requires c κs = search needs
+
 le-requires : tie.Need-le-requires
 le-requires c κs = search needs
 
@@ -20,7 +22,7 @@ and-requires : tie.Need-and-requires
 and-requires c κs = search needs
 
 returns : tie.Need-returns
-unfolding picksIn depths
+unfolding picksIn
 returns c = search (needs, ask-most)
 
 pub picks-in-spec : {M : Type 1} → statement M
@@ -29,6 +31,7 @@ picks-in-spec =
     (tie.spec
     level-taken-requires
     depth-at-requires
+    last-depth-requires
     le-requires
     and-requires
     returns)

@@ -1,6 +1,6 @@
 -- `table::open` meets its contract.
 -- Relies on Opened.
-use Rattle.table.proofs.Opened.{worker-words, open-done, open-refused}
+use Rattle.table.proofs.Opened.{open-wide, worker-words, open-done, open-refused}
 use Rattle.words.proofs.Auto.{tests}
 use borrow.Author.Needs.{needs}
 use Rattle.table.proofs.open.Statement.{statement}
@@ -10,7 +10,7 @@ refused-opening-requires : tie.Need-refused-opening-requires
 refused-opening-requires c κs = search needs
 
 fill-level-requires : tie.Need-fill-level-requires
-fill-level-requires c κs = search needs
+fill-level-requires c κs = search (tests, open-wide)
 
 word-place-requires : tie.Need-word-place-requires
 word-place-requires c κs = search needs

@@ -1,6 +1,6 @@
 -- `table::refused_last` meets its contract.
 -- Relies on Questions, Last.
-use Rattle.table.proofs.Questions.{four-limit}
+use Rattle.table.proofs.Questions.{four-wide, four-limit}
 use Rattle.table.proofs.Last.{last-fits, last-unfit, last-four}
 use Rattle.words.proofs.Auto.{tests}
 use Rattle.words.proofs.Choice.{via}
@@ -15,7 +15,7 @@ load-requires : tie.Need-load-requires
 load-requires c κs = search needs
 
 fits-requires : tie.Need-fits-requires
-fits-requires c κs = search (tests, four-limit)
+fits-requires c κs = search (tests, four-wide, four-limit)
 
 returns : tie.Need-returns
 returns c = search (tests, via, last-fits)

@@ -1,6 +1,6 @@
 -- `table::refused_start` meets its contract.
 -- Relies on Questions, Starting.
-use Rattle.table.proofs.Questions.{four-limit}
+use Rattle.table.proofs.Questions.{four-wide, four-limit}
 use Rattle.table.proofs.Starting.{start-record, start-frame, start-four}
 use Rattle.words.proofs.Auto.{tests}
 use Rattle.words.proofs.Choice.{via}
@@ -15,7 +15,7 @@ in-frame-requires : tie.Need-in-frame-requires
 in-frame-requires c κs = search needs
 
 refused-record-requires : tie.Need-refused-record-requires
-refused-record-requires c κs = search (tests, four-limit)
+refused-record-requires c κs = search (tests, four-wide, four-limit)
 
 returns : tie.Need-returns
 returns c = search (tests, via, start-record, start-frame, start-four)

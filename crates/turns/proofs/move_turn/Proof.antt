@@ -36,7 +36,7 @@ returns : tie.Need-returns
 returns c = let b = c .before .before .before .before .before .before in
     let d = b .before .before .before in
     let p = d .before .before .before .before .before .pre in
-    move-refused 3 _ _ _ _ _ _ _ _ (c .refused-six .ensures) (b .turn .ensures) (d .load .ensures) (c .before .if1 .taken) (p .1 .0) (p .0) (p .1 .1 .0) (p .1 .1 .1)
+    move-refused _ _ _ _ _ _ _ _ _ (c .refused-six .ensures) (b .turn .ensures) (d .load .ensures) (c .before .if1 .taken) (p .1 .0) (p .0) (p .1 .1 .0) (p .1 .1 .1)
 
 same-length-4 : tie.Need-same-length-4
 same-length-4 c = search needs
@@ -54,7 +54,7 @@ returns-2 c = let x = c .before in
     let b = f .before .before .before .before .before in
     let d = b .before .before .before in
     let p = d .before .before .before .before .before .pre in
-    move-done 3 _ _ _ _ _ _ _ _ (c .turn-done .ensures) (x .came-to .ensures) (e .store .ensures) (b .turn .ensures) (d .load .ensures) (f .if1 .left) (p .1 .0) (p .0) (p .1 .1 .0) (p .1 .1 .1)
+    move-done _ _ _ _ _ _ _ _ _ (c .turn-done .ensures) (x .came-to .ensures) (e .store .ensures) (b .turn .ensures) (d .load .ensures) (f .if1 .left) (p .1 .0) (p .0) (p .1 .1 .0) (p .1 .1 .1)
 
 pub move-turn-spec : {M : Type 1} → statement M
 move-turn-spec =

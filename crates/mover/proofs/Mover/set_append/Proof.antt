@@ -30,7 +30,7 @@ same-length-2 : tie.Need-same-length-2
 same-length-2 c = search needs
 
 returns : tie.Need-returns
-returns c = search (needs, append-gives 3)
+returns c = search (needs, append-gives)
 
 returns-2 : tie.Need-returns-2
 unfolding setAppends

@@ -12,6 +12,9 @@ use Rattle.mover.proofs.Mover.set_close.Tie as tie
 stands-with-requires : tie.Need-stands-with-requires
 stands-with-requires c κs = search needs
 
+last-depth-requires : tie.Need-last-depth-requires
+last-depth-requires c κs = search needs
+
 sub-level-ref : tie.Need-sub-level-ref
 sub-level-ref c = search (needs, level-one)
 
@@ -22,7 +25,7 @@ exchange-from-requires : tie.Need-exchange-from-requires
 exchange-from-requires c κs = search (needs, stands-most)
 
 close-met-requires : tie.Need-close-met-requires
-close-met-requires c κs = search (needs, level-one)
+close-met-requires c κs = (search needs, (search needs, search (needs, level-one)))
 
 close-no-room-requires : tie.Need-close-no-room-requires
 close-no-room-requires c κs = search needs
@@ -37,7 +40,12 @@ same-length-2 : tie.Need-same-length-2
 same-length-2 c = search needs
 
 returns : tie.Need-returns
-returns c = search (needs, close-gives)
+returns c =
+    let e = c .before .before .before .before .before .before in
+    let l = e .before .before .before in
+    let i = l .before .before in
+    let d = i .before .before in
+    close-gives _ _ _ _ (c .close-met .ensures) (e .exchange-from .ensures) (l .level-ref .ensures) (d .last-depth .ensures .0) (i .if2 .taken) (d .before .before .stands-with .ensures) (d .before .if1 .taken)
 
 same-length-3 : tie.Need-same-length-3
 same-length-3 c = search needs
@@ -57,6 +65,7 @@ set-close-spec =
     tie.close
     (tie.spec
     stands-with-requires
+    last-depth-requires
     sub-level-ref
     level-ref-requires
     exchange-from-requires

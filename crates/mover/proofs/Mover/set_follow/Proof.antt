@@ -15,7 +15,7 @@ follow-met-requires : tie.Need-follow-met-requires
 follow-met-requires c κs = search needs
 
 returns : tie.Need-returns
-returns c = search (needs, follow-gives 3)
+returns c = search (needs, follow-gives)
 
 pub set-follow-spec : {M : Type 1} → statement M
 set-follow-spec =

@@ -14,7 +14,7 @@ takes-level-requires : tie.Need-takes-level-requires
 takes-level-requires c κs = search needs
 
 take-level-requires : tie.Need-take-level-requires
-take-level-requires c κs = search (needs, takes-held-level, takes-deep)
+take-level-requires c κs = (search needs, (search needs, (search (needs, takes-held-level), search (needs, takes-deep))))
 
 add-holding-level : tie.Need-add-holding-level
 add-holding-level c = search (needs, taken-fits, takes-held-level)

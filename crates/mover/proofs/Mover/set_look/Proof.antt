@@ -18,7 +18,7 @@ peek-met-requires : tie.Need-peek-met-requires
 peek-met-requires c κs = search needs
 
 returns : tie.Need-returns
-returns c = search (needs, look-gives 3)
+returns c = search (needs, look-gives)
 
 pub set-look-spec : {M : Type 1} → statement M
 set-look-spec =

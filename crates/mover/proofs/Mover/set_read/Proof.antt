@@ -18,7 +18,7 @@ read-met-requires : tie.Need-read-met-requires
 read-met-requires c κs = search needs
 
 returns : tie.Need-returns
-returns c = search (needs, read-gives 3)
+returns c = search (needs, read-gives)
 
 pub set-read-spec : {M : Type 1} → statement M
 set-read-spec =

@@ -37,7 +37,7 @@ same-length-2 c = search needs
 
 returns : tie.Need-returns
 returns c =
-    put-tried 3 _ _ _ _ (c .put-met .ensures) (c .before .before .before .before .before .before .before .exchange-from .ensures) (c .before .before .before .before .before .before .before .before .before .before .before .before .entry-of .ensures) (c .before .before .before .before .before .before .before .before .before .before .node-ref .ensures)
+    put-tried _ _ _ _ _ (c .put-met .ensures) (c .before .before .before .before .before .before .before .exchange-from .ensures) (c .before .before .before .before .before .before .before .before .before .before .before .before .entry-of .ensures) (c .before .before .before .before .before .before .before .before .before .before .node-ref .ensures)
     (c .before .before .before .before .before .before .before .before .before .before .before .before .before .before .before .picks-with .ensures) (c .before .before .before .before .before .before .before .before .before .before .before .before .before .before .if1 .taken)
 
 same-length-3 : tie.Need-same-length-3

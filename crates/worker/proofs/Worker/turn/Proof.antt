@@ -182,7 +182,7 @@ returns-10 c = search (needs, turn-kind)
 returns-11 : tie.Need-returns-11
 unfolding every both
 returns-11 c =
-    turn-other _ 3 _ _ _ (search needs)
+    turn-other _ _ _ _ _ (search needs)
     (kind-among _ (λ n. not (both (leb 1 n) (leb n 10))) (0 ∷ 11 ∷ 12 ∷ 13 ∷ 14 ∷ 15 ∷ 16 ∷ 17 ∷ 18 ∷ 19 ∷ 20 ∷ 21 ∷ 22 ∷ 23 ∷ []) (c .before .match .keys11) refl)
 
 pub turn-spec : {M : Type 1} → statement M
