@@ -1,13 +1,18 @@
 // The C interface: the public operations with their answers as numbers. include/leafdrum.h declares it; tests/headers.py compares the two.
-// Relies on table and lists for the operations.
+// Relies on table for the operations, on lists for the parts of a turn and of a list of turns.
 ghost use mathlib.Core.Path.{_≡_};
+ghost use Prim.Native.Nat.{_-_};
 ghost use Rattle.areas.specs.Memory.{areas};
 ghost use Rattle.record.specs.Kinds.{answerNo, answerNode};
-ghost use Rattle.rules.specs.Operations.{opening, start, turn, lastAnswer};
+ghost use Rattle.record.specs.Layout.{headAt};
+ghost use Rattle.rules.specs.Operations.{reply, opening, start, turn, lastAnswer};
 ghost use Rattle.rules.specs.Exchanges.{listReport};
+ghost use Rattle.lists.specs.Cut.{toldReply};
 ghost use Rattle.export.specs.Shown.{numbersOf, shown, exported, exportedList, countOrZero};
+use lists::Tally;
 use record::Answer;
 use record::Reply;
+use record::idle_at;
 use settings::Settings;
 
 // leafdrum_reply: the number of the refusal or 0, the answer and its node; of a list the turns done, and its exchanges done and failed; the settings.
@@ -62,6 +67,34 @@ fn numbers(r: Reply, done: u32, failed: u32) -> LeafdrumReply
     }
 }
 
+// The ways in which a turn or a list ends. A function of the interface returns each of them by itself, and has the steps of a turn in its own text for that:
+// settings that have not changed then go to the caller by wide copies, as they came (docs/DECISIONS.md has the times).
+fn ended_refused(q: u32, s: Settings) -> LeafdrumReply
+    ensures { λ x. ⌜ x ≡ numbersOf (reply q Answer.Nothing 0 s) 0 0 ⌝ }
+{
+    numbers(table::refusal(q, s), 0, 0)
+}
+
+fn ended_open(s: Settings) -> LeafdrumReply
+    ensures { λ x. ⌜ x ≡ numbersOf (reply 0 Answer.Open 0 s) 0 0 ⌝ }
+{
+    numbers(table::replied(0, Answer::Open, s), 0, 0)
+}
+
+fn ended_told(s: Settings, i: u32, workers: &[u32]) -> LeafdrumReply
+    ensures { λ x. ⌜ x ≡ numbersOf (toldReply (headAt (now (workers .entry)) i) s) 0 0 ⌝ }
+{
+    let d = lists::turn_told(workers, i);
+    let a = d.answer;
+    numbers(table::replied(d.number, a, s), 0, 0)
+}
+
+fn ended_list(s: Settings, t: Tally, limit: u32) -> LeafdrumReply
+    ensures { λ x. ⌜ x ≡ numbersOf (reply (t .number) Answer.Nothing (limit - t .left) s) (t .done) (t .failed) ⌝ }
+{
+    numbers(lists::ended_list(s, t, limit), t.done, t.failed)
+}
+
 #[no_mangle]
 pub extern "C" fn leafdrum_open(
     settings: Settings,
@@ -101,8 +134,27 @@ pub extern "C" fn leafdrum_turn(
 ) -> LeafdrumReply
     ensures { λ r. ⌜ shown r (areas (now (nodes .exit)) (now (levels .exit)) (now (workers .exit))) ≡ exported (turn (settings .width) settings worker (areas (now (nodes .entry)) (now (levels .entry)) (now (workers .entry)))) ⌝ }
 {
-    let r = lists::turn(settings, worker, nodes, levels, workers);
-    numbers(r, 0, 0)
+    let mut s = settings;
+    let q = lists::refused_turn(s, worker, nodes, levels, workers);
+    if q == 0 {} else {
+        return ended_refused(q, s);
+    }
+    // no entry but this worker
+    let none = [0u8];
+    let t = lists::run_list(s, worker, &none[..0], 1, nodes, levels, workers);
+    if t.number == 6 {
+        return ended_refused(6, s);
+    }
+    if lists::same_counts(s, t) {
+        // most turns leave the call open, and need not be told apart further
+        if idle_at(workers, worker) {
+            return ended_told(s, worker, workers);
+        }
+        return ended_open(s);
+    }
+    s.nodes_taken = t.nodes_taken;
+    s.levels_taken = t.levels_taken;
+    ended_told(s, worker, workers)
 }
 
 #[no_mangle]
@@ -116,8 +168,23 @@ pub extern "C" fn leafdrum_turns(
 ) -> LeafdrumReply
     ensures { λ r. ⌜ shown r (areas (now (nodes .exit)) (now (levels .exit)) (now (workers .exit))) ≡ exportedList (listReport (settings .width) settings (now (list .entry)) limit (areas (now (nodes .entry)) (now (levels .entry)) (now (workers .entry)))) ⌝ }
 {
-    let l = lists::turns(settings, list, limit, nodes, levels, workers);
-    numbers(l.reply, l.done, l.failed)
+    let mut s = settings;
+    let q = lists::refused_list(s, list, nodes, levels, workers);
+    if q == 0 {} else {
+        return ended_refused(q, s);
+    }
+    // a list without an entry is carried out, and does nothing
+    if list.len() == 0 {
+        return ended_refused(0, s);
+    }
+    let first = lists::wide(list[0]);
+    let t = lists::run_list(s, first, &list[1..], limit, nodes, levels, workers);
+    if lists::same_counts(s, t) {
+        return ended_list(s, t, limit);
+    }
+    s.nodes_taken = t.nodes_taken;
+    s.levels_taken = t.levels_taken;
+    ended_list(s, t, limit)
 }
 
 #[no_mangle]

@@ -4,4 +4,3 @@ pub mod ListCut
 pub mod Tells
 pub mod One
 pub mod Ways
-pub mod Carried

@@ -1,24 +1,23 @@
 -- One turn is a list of one entry: the ways through its functions, and that its reply is the turn's.
--- Relies on Tells for the number that the record tells, on rules for its answer and for the numbers of a turn.
-use Prim.Native.Nat.{ℕ, _+_, _*_, _≤_, _<_}
-use mathlib.Core.Path.{_≡_, refl, ap, sym, subst, _∙_}
+-- Relies on Tells for the number that the record tells, on Ways for what refuses a turn before, on rules for its answer and for the numbers of a turn.
+use Prim.Native.Nat.{ℕ, _+_, _*_, _≤_}
+use mathlib.Core.Path.{_≡_, refl, ap, ap₂, sym, subst, _∙_}
 use mathlib.Core.Logic.{_≢_}
 use mathlib.Core.Bool.{Bool, true, false}
 use mathlib.Core.List.{List, [], _∷_}
 use native.Mathlib.Omega.{arith}
-use mir.Syntax.{w8}
-use mir.Val.{Fits}
 use lib.Dec.{eqb, ltb}
 use lib.ListN.{length}
-use borrow.Author.Tests.{ne-eqb, eq-eqb, ltb-true}
+use borrow.Author.Tests.{ne-eqb, eq-eqb, eqb-true}
 use Rattle.words.specs.Choice.{pick, every}
-use Rattle.words.proofs.Choice.{pick-true, pick-false, both-true}
+use Rattle.words.proofs.Choice.{pick-true, pick-false, both-true, both-left, both-right}
 use Rattle.settings.specs.Sizes.{question1, question3, workerWords}
-use Rattle.settings.specs.Cut.{firstThree}
+use Rattle.settings.specs.Cut.{counted, firstThree}
 use Rattle.settings.specs.declared.Settings.{Settings}
 use Rattle.areas.specs.Memory.{Areas, areas}
 use Rattle.record.specs.declared.Answer.{Answer}
-use Rattle.record.specs.declared.Answer.the-variants.{Nothing}
+use Rattle.record.specs.declared.Answer.the-variants.{Nothing, Open}
+use Rattle.record.specs.declared.Exchange.{Exchange}
 use Rattle.record.specs.declared.Head.{Head}
 use Rattle.record.specs.declared.Reply.{Reply}
 use Rattle.record.specs.Kinds.{kindNo, answerOf}
@@ -27,7 +26,7 @@ use Rattle.record.proofs.Records.{head-stored}
 use Rattle.rules.specs.Heads.{ended}
 use Rattle.rules.specs.Lists.{state, after}
 use Rattle.rules.specs.Calls.{turns}
-use Rattle.rules.specs.Exchanges.{exchangeAt}
+use Rattle.rules.specs.Exchanges.{exchangeAt, doneIn, failedIn}
 use Rattle.rules.specs.Operations.{Result, result, reply, refused, recordOf, memoryOf, full, fullRecord, taken, turn, turnQuestions, question2Of, lastOf}
 use Rattle.words.specs.Choice.{firstNo, asks}
 use Rattle.rules.specs.Asked.{question4, question6, question8, question9}
@@ -36,14 +35,14 @@ use Rattle.rules.specs.Acts.{act}
 use Rattle.rules.proofs.OneTurn.{turn-number, done-number, nine-is-full, turn-refused}
 use Rattle.rules.proofs.Questions.{first-later}
 use Rattle.rules.proofs.Tells.{Tells, act-tells}
-use Rattle.settings.proofs.Laws.{sized}
 use Rattle.table.specs.Cut.{firstFour}
 use Rattle.table.proofs.Questions.{both-zero}
 use Rattle.turns.proofs.Ways.{four-yes, four-inside}
 use Rattle.lists.specs.declared.Tally.{Tally}
 use Rattle.lists.specs.declared.Told.{Told}
-use Rattle.lists.specs.Cut.{Run, run, countedBy, ranOf, ranBy, ranEntry, ranList, numberBy, told, replyOf, toldOne}
+use Rattle.lists.specs.Cut.{Run, run, countedBy, ranOf, ranBy, ranEntry, ranList, sameCounts, numberBy, toldBy, toldReply, refusedTurn}
 use Rattle.lists.proofs.Tells.{act-number}
+use Rattle.lists.proofs.Ways.{not-eight, turn-four, turn-open}
 
 -- the ways through its functions
 module _ (h : Head) where
@@ -58,19 +57,6 @@ module _ (h : Head) where
   pub number-open : {b : Bool} → b ≡ eqb (kindNo (h .kind)) 0 → b ≡ false → 0 ≡ numberBy h
   unfolding numberBy
   number-open e z = sym (pick-false _ _ _ (sym e ∙ z))
-
-  module _ (t : Tally) where
-    pub one-six : {d : Told} → d ≡ told 6 Nothing → t .number ≡ 6 → d ≡ toldOne t h
-    unfolding toldOne
-    one-six a e = a ∙ sym (pick-true _ _ _ (eq-eqb _ _ e))
-
-    pub one-done : {d : Told} {n : ℕ} {a : Answer} → d ≡ told n a → n ≡ numberBy h → a ≡ lastOf h → (t .number ≡ 6 → ⊥) → t .left ≡ 0 → d ≡ toldOne t h
-    unfolding toldOne
-    one-done p a b e z = p ∙ rw (a, b) (sym (pick-false _ _ _ (ne-eqb _ _ e) ∙ pick-true _ _ _ (eq-eqb _ _ z)))
-
-    pub one-idle : {d : Told} → d ≡ told 8 Nothing → (t .number ≡ 6 → ⊥) → (t .left ≡ 0 → ⊥) → d ≡ toldOne t h
-    unfolding toldOne
-    one-idle p e z = p ∙ sym (pick-false _ _ _ (ne-eqb _ _ e) ∙ pick-false _ _ _ (ne-eqb _ _ z))
 
 -- the numbers that a turn gives once questions 1 to 4 are answered yes
 data Among (n : ℕ) : Type 0 where
@@ -123,7 +109,7 @@ module _ (w : ℕ) (s : Settings) (i : ℕ) (a : Areas) where
 
   -- the record tells the reply of a turn that was done
   abbrev IsTold : Result → Type 0
-  IsTold r = r .reply ≡ reply (numberBy (headAt (r .areas .workers) i)) (lastOf (headAt (r .areas .workers) i)) 0 (r .reply .settings)
+  IsTold r = r .reply ≡ toldReply (headAt (r .areas .workers) i) (r .reply .settings)
 
   taken-told : workerPlace i + 10 ≤ length (a .workers) → question8 (recordOf a i) ≡ true → IsTold (taken (act w s (recordOf a i) (memoryOf a)) i (a .workers))
   unfolding taken
@@ -151,8 +137,11 @@ module _ (w : ℕ) (s : Settings) (i : ℕ) (a : Areas) where
   abbrev alone : Run
   alone = run 0 (state s a) 1 0 0
 
+  abbrev made : Exchange
+  made = exchangeAt w (turns i) (state s a)
+
   abbrev ran : Run
-  ran = ranBy alone (exchangeAt w (turns i) (state s a)) its
+  ran = ranBy alone made its
 
   ran-one : ranList w (i ∷ []) alone ≡ ran
   unfolding ranList ranEntry pick
@@ -161,79 +150,84 @@ module _ (w : ℕ) (s : Settings) (i : ℕ) (a : Areas) where
   refused-is : (n : ℕ) → its .reply .number ≡ n → n ≢ 0 → n ≢ 9 → its ≡ refused n s a
   refused-is n e p q = turn-refused w s i a (λ z. p (sym e ∙ z)) (λ z. q (sym e ∙ z)) ∙ ap (λ (k : ℕ). refused k s a) e
 
-  module _ (t : Tally) {d : Told} {c : Settings} {x : Areas} {h : Head} (e : d ≡ toldOne t h) (b : c ≡ countedBy s t) (f : h ≡ headAt (x .workers) i) where
-    one-refused : its .reply .number ≡ 6 → ranOf s t x ≡ ran → result (replyOf d c) x ≡ its
-    unfolding ranBy toldOne
-    one-refused n g =
-        let k : ranOf s t x ≡ run 6 (state s a) 1 0 0 = g ∙ pick-true _ _ _ (eq-eqb _ _ n) in
-        let u : d ≡ told 6 Nothing = e ∙ pick-true _ _ _ (eq-eqb _ _ (ap (λ (y : Run). y .number) k)) in
-        let o : c ≡ s = b ∙ ap (λ (y : Run). y .state′ .settings) k in
-        let v : x ≡ a = ap (λ (y : Run). y .state′ .areas) k in
-        rw (u, o, v) (sym (refused-is 6 n (λ z. omega arith) (λ z. omega arith)))
+  -- what the tally of that list says of the turn: a 6, or what the record tells, with the tally's counts
+  module _ (t : Tally) {x : Areas} (g : ranOf s t x ≡ ran) where
+    ran-six : its .reply .number ≡ 6 → ranOf s t x ≡ run 6 (state s a) 1 0 0
+    unfolding ranBy
+    ran-six n = g ∙ pick-true _ _ _ (eq-eqb _ _ n)
 
-    one-idled : its .reply .number ≡ 8 → ranOf s t x ≡ ran → result (replyOf d c) x ≡ its
-    unfolding ranBy toldOne
-    one-idled n g =
-        let k : ranOf s t x ≡ alone = g ∙ (pick-false _ _ _ (ne-eqb (its .reply .number) 6 (λ z. omega arith)) ∙ pick-true _ _ _ (eq-eqb _ _ n)) in
-        let m : t .number ≡ 0 = ap (λ (y : Run). y .number) k in
-        let l : t .left ≡ 1 = ap (λ (y : Run). y .left) k in
-        let u : d ≡ told 8 Nothing = e ∙ (pick-false _ _ _ (ne-eqb (t .number) 6 (λ z. omega arith)) ∙ pick-false _ _ _ (ne-eqb (t .left) 0 (λ z. omega arith))) in
-        let o : c ≡ s = b ∙ ap (λ (y : Run). y .state′ .settings) k in
-        let v : x ≡ a = ap (λ (y : Run). y .state′ .areas) k in
-        rw (u, o, v) (sym (refused-is 8 n (λ z. omega arith) (λ z. omega arith)))
+    ran-done : its .reply .number ≢ 6 → its .reply .number ≢ 8 → ranOf s t x ≡ run 0 (after its) 0 (0 + doneIn made) (0 + failedIn made)
+    unfolding ranBy
+    ran-done p q = g ∙ (pick-false _ _ _ (ne-eqb _ _ p) ∙ pick-false _ _ _ (ne-eqb _ _ q))
 
-    one-taken : its .reply .number ≢ 6 → its .reply .number ≢ 8 → IsTold its → ranOf s t x ≡ ran → result (replyOf d c) x ≡ its
-    unfolding ranBy toldOne
-    one-taken p q y g =
-        let k : ranOf s t x ≡ run 0 (after its) 0 _ _ = g ∙ (pick-false _ _ _ (ne-eqb _ _ p) ∙ pick-false _ _ _ (ne-eqb _ _ q)) in
-        let m : t .number ≡ 0 = ap (λ (y : Run). y .number) k in
-        let l : t .left ≡ 0 = ap (λ (y : Run). y .left) k in
-        let o : c ≡ its .reply .settings = b ∙ ap (λ (y : Run). y .state′ .settings) k in
-        let v : x ≡ its .areas = ap (λ (y : Run). y .state′ .areas) k in
-        let w′ : h ≡ headAt (its .areas .workers) i = f ∙ ap (λ (y : Areas). headAt (y .workers) i) v in
-        let u : d ≡ told (numberBy (headAt (its .areas .workers) i)) (lastOf (headAt (its .areas .workers) i)) =
-        e ∙ (pick-false _ _ _ (ne-eqb (t .number) 6 (λ z. omega arith)) ∙ (pick-true _ _ _ (eq-eqb _ _ l)
-        ∙ ap (λ (y : Head). told (numberBy y) (lastOf y)) w′))
-        in
-        let r : replyOf d c ≡ its .reply = ap (λ (y : Told). replyOf y c) u ∙ (ap (λ (y : Settings). reply (numberBy (headAt (its .areas .workers) i)) (lastOf (headAt (its .areas .workers) i)) 0 y) o ∙ sym y) in
-        rw v (ap (λ (y : Reply). result y (its .areas)) r)
+    one-taken : its .reply .number ≢ 6 → its .reply .number ≢ 8 → IsTold its → result (toldReply (headAt (x .workers) i) (countedBy s t)) x ≡ its
+    one-taken p q y =
+        let k = ran-done p q in
+        let o : countedBy s t ≡ its .reply .settings = ap (λ (v : Run). v .state′ .settings) k in
+        let v : x ≡ its .areas = ap (λ (v : Run). v .state′ .areas) k in
+        ap (λ (v : Settings). result (toldReply (headAt (x .workers) i) v) x) o
+        ∙ ap (λ (v : Areas). result (toldReply (headAt (v .workers) i) (its .reply .settings)) v) v
+        ∙ ap (λ (v : Reply). result v (its .areas)) (sym y)
 
-    by-number : Among (its .reply .number) → workerPlace i + 10 ≤ length (a .workers) → ranOf s t x ≡ ran → result (replyOf d c) x ≡ its
-    by-number (is-six n) room g = one-refused n g
-    by-number (is-eight n) room g = one-idled n g
-    by-number (is-none n) room g = let p : its .reply .number ≢ 6 = λ z. omega arith in let q : its .reply .number ≢ 8 = λ z. omega arith in one-taken p q (reply-told room (is-none n) p q) g
-    by-number (is-nine n) room g = let p : its .reply .number ≢ 6 = λ z. omega arith in let q : its .reply .number ≢ 8 = λ z. omega arith in one-taken p q (reply-told room (is-nine n) p q) g
+    on-six : Among (its .reply .number) → its .reply .number ≢ 8 → t .number ≡ 6 → refused 6 s x ≡ its
+    on-six (is-six n) q e = ap (refused 6 s) (ap (λ (v : Run). v .state′ .areas) (ran-six n)) ∙ sym (refused-is 6 n (λ z. omega arith) (λ z. omega arith))
+    on-six (is-eight n) q e = absurd (q n)
+    on-six (is-none n) q e = let z : t .number ≡ 0 = ap (λ (v : Run). v .number) (ran-done (λ u. omega arith) q) in absurd (omega arith)
+    on-six (is-nine n) q e = let z : t .number ≡ 0 = ap (λ (v : Run). v .number) (ran-done (λ u. omega arith) q) in absurd (omega arith)
 
--- one turn
-pub one-is :
-    (s : Settings) (i : ℕ) (n g k : List ℕ) (t : Tally) {d : Told} {c : Settings} {x : Areas} {h : Head} {l : List ℕ}
-    → d ≡ toldOne t h → c ≡ countedBy s t → h ≡ headAt (x .workers) i → ranOf s t x ≡ ranList (s .width) l (run 0 (state s (areas n g k)) 1 0 0) → l ≡ i ∷ []
-    → firstFour (s .width) s i (length n) (length g) (length k) ≡ 0 → result (replyOf d c) x ≡ turn (s .width) s i (areas n g k)
-unfolding workerPlace
-one-is s i n g k t e b f p q z =
-    let room : workerWords * i + workerWords ≤ length k = four-inside (s .width) s i (length n) (length g) (length k) refl z in
-    by-number (s .width) s i (areas n g k) t e b f (numbers (s .width) s i (areas n g k) z) (omega arith)
-    (p ∙ (ap (λ (y : List ℕ). ranList (s .width) y (run 0 (state s (areas n g k)) 1 0 0)) q ∙ ran-one (s .width) s i (areas n g k)))
+    on-told : Among (its .reply .number) → its .reply .number ≢ 8 → workerPlace i + 10 ≤ length (a .workers) → t .number ≢ 6 → result (toldReply (headAt (x .workers) i) (countedBy s t)) x ≡ its
+    on-told (is-six n) q room p = absurd (p (ap (λ (v : Run). v .number) (ran-six n)))
+    on-told (is-eight n) q room p = absurd (q n)
+    on-told (is-none n) q room p = let o : its .reply .number ≢ 6 = λ z. omega arith in one-taken o q (reply-told room (is-none n) o q)
+    on-told (is-nine n) q room p = let o : its .reply .number ≢ 6 = λ z. omega arith in one-taken o q (reply-told room (is-nine n) o q)
 
--- what a list of the entry requires
-module _ (s : Settings) (i n g k : ℕ) (z : firstFour (s .width) s i n g k ≡ 0) where
-  pub four-three : firstThree (s .width) s n g k ≡ 0
+-- a turn of a worker with a call open, from the tally of a list of it alone
+module _ (s : Settings) (i : ℕ) (n g k : List ℕ) (o : refusedTurn (s .width) s i (areas n g k) ≡ 0) where
+  four : firstFour (s .width) s i (length n) (length g) (length k) ≡ 0
+  four = turn-four (s .width) s i n g k o
+
+  room : workerPlace i + 10 ≤ length k
+  unfolding workerPlace
+  room = let e : workerWords * i + workerWords ≤ length k = four-inside (s .width) s i (length n) (length g) (length k) refl four in omega arith
+
+  not-idle : turn (s .width) s i (areas n g k) .reply .number ≢ 8
+  not-idle = not-eight (s .width) s i n g k (turn-open (s .width) s i n g k o)
+
+  abbrev asked : Among (turn (s .width) s i (areas n g k) .reply .number)
+  asked = numbers (s .width) s i (areas n g k) four
+
+  -- what a list of it requires
+  pub one-three : firstThree (s .width) s (length n) (length g) (length k) ≡ 0
   unfolding firstFour
-  four-three = both-zero (firstThree (s .width) s n g k) _ z .0
+  one-three = both-zero (firstThree (s .width) s (length n) (length g) (length k)) _ four .0
 
-  four-below : ltb i (s .workers) ≡ true
-  unfolding firstFour question4
-  four-below = four-yes _ (both-zero (firstThree (s .width) s n g k) _ z .1)
+  pub one-below : {l : List ℕ} → l ≡ i ∷ [] → every (λ (j : ℕ). ltb j (s .workers)) l ≡ true
+  unfolding every firstFour question4
+  one-below e = rw e (both-true (four-yes _ (both-zero (firstThree (s .width) s (length n) (length g) (length k)) _ four .1)) refl)
 
-  four-small : i ≤ 15
-  four-small =
-      let h : i < s .workers = ltb-true _ _ four-below in
-      let m : s .workers ≤ 16 = sized s n g k four-three .ranges .workers .high in
-      omega arith
+  -- what it gives
+  module _ (t : Tally) {x : Areas} {l : List ℕ} (p : ranOf s t x ≡ ranList (s .width) l (run 0 (state s (areas n g k)) 1 0 0)) (q : l ≡ i ∷ []) where
+    ran-alone : ranOf s t x ≡ ran (s .width) s i (areas n g k)
+    ran-alone = p ∙ (ap (λ (y : List ℕ). ranList (s .width) y (run 0 (state s (areas n g k)) 1 0 0)) q ∙ ran-one (s .width) s i (areas n g k))
 
-  pub four-fits : Fits w8 i
-  four-fits = let h : i ≤ 15 = four-small in record { fits = omega arith }
+    pub one-six : {r : Reply} → r ≡ reply 6 Nothing 0 s → t .number ≡ 6 → result r x ≡ turn (s .width) s i (areas n g k)
+    one-six e z = rw e (on-six (s .width) s i (areas n g k) t ran-alone asked not-idle z)
 
-  pub four-every : {l : List ℕ} → l ≡ i ∷ [] → every (λ (j : ℕ). ltb j (s .workers)) l ≡ true
-  unfolding every
-  four-every e = rw e (both-true four-below refl)
+    pub one-told : {r : Reply} {d : Told} {c : Settings} → r ≡ reply (d .number) (d .answer) 0 c → d ≡ toldBy (headAt (x .workers) i) → c ≡ countedBy s t → (t .number ≡ 6 → ⊥) → result r x ≡ turn (s .width) s i (areas n g k)
+    one-told e f c z = rw (e, f, c) (on-told (s .width) s i (areas n g k) t ran-alone asked not-idle room z)
+
+    -- where the call is still open
+    pub one-open : {r : Reply} {b : Bool} {c : Settings} → r ≡ reply 0 Open 0 c → b ≡ eqb (kindNo (headAt (x .workers) i .kind)) 0 → b ≡ false → c ≡ countedBy s t → (t .number ≡ 6 → ⊥) → result r x ≡ turn (s .width) s i (areas n g k)
+    unfolding numberBy lastOf
+    one-open e f y c z =
+        let v : eqb (kindNo (headAt (x .workers) i .kind)) 0 ≡ false = sym f ∙ y in
+        rw (e, c) (ap₂ (λ (m : ℕ) (u : Answer). result (reply m u 0 (countedBy s t)) x) (sym (pick-false _ _ _ v)) (sym (pick-false _ _ _ v)) ∙ on-told (s .width) s i (areas n g k) t ran-alone asked not-idle room z)
+
+-- with counts that are those of the settings, of a list as of a turn, the settings are the same
+pub same-counted : (s : Settings) (t : Tally) {b : Bool} → b ≡ sameCounts s t → b ≡ true → s ≡ countedBy s t
+unfolding counted
+same-counted s t e y =
+    let z : sameCounts s t ≡ true = sym e ∙ y in
+    let p : t .«nodes_taken» ≡ s .«nodes_taken» = eqb-true _ _ (both-left _ _ z) in
+    let q : t .«levels_taken» ≡ s .«levels_taken» = eqb-true _ _ (both-right (eqb (t .«nodes_taken») (s .«nodes_taken»)) _ z) in
+    sym (ap₂ (λ (n g : ℕ). counted s n g) p q)

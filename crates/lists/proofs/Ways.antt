@@ -1,4 +1,4 @@
--- One law for each way through the functions of a list of turns: its premises are what the callees give and the tests.
+-- One law for each way through the functions of a list of turns, and through what refuses a turn: its premises are what the callees give and the tests.
 -- Relies on the code's cut, on what ties it to the definition, and on that questions 1 to 3 stay answered yes.
 use Prim.Native.Nat.{ℕ, zero, suc, _+_, _*_, _-_, _≤_, _<_}
 use mathlib.Core.Path.{_≡_, refl, sym, ap, subst, _∙_}
@@ -12,7 +12,7 @@ use native.Mathlib.Omega.{arith}
 use lib.Dec.{eqb, ltb, leb}
 use lib.ListN.{length, getD, take, drop, drop-of-length-le}
 use lib.Seq.{take-all, drop-cons}
-use borrow.Author.Tests.{eq-eqb, ne-eqb, eqb-false, lt-ltb, ltb-true}
+use borrow.Author.Tests.{eq-eqb, ne-eqb, eqb-true, eqb-false, lt-ltb, ltb-true}
 use Rattle.words.specs.Choice.{pick, both, every, asks, firstNo}
 use Rattle.words.proofs.Choice.{true-false, pick-both, pick-true, pick-false, both-left, both-right}
 use Rattle.settings.specs.Cut.{counted, firstThree, Sized}
@@ -40,12 +40,13 @@ use Rattle.rules.proofs.Three.{Three, three-stays, sizes-stay}
 use Rattle.rules.proofs.Exchanges.{one-exchange}
 use Rattle.rules.proofs.Entries.{eight-idle}
 use Rattle.table.specs.Cut.{firstFour}
+use Rattle.table.proofs.Questions.{both-zero}
 use Rattle.turns.specs.Cut.{turnHere, turnDone, Did, did, didOf, didHere}
 use Rattle.turns.specs.declared.Done.{Done}
-use Rattle.turns.proofs.Ways.{three-of, three-inside, here-idle, here-turn}
+use Rattle.turns.proofs.Ways as below
+use Rattle.turns.proofs.Ways.{three-of, three-inside, here-idle, here-turn, four-yes}
 use Rattle.lists.specs.declared.Tally.{Tally}
-use Rattle.lists.specs.declared.Told.{Told}
-use Rattle.lists.specs.Cut.{Run, run, countedBy, ranOf, tally, sixTally, idleTally, nextTally, openTally, idleNumber, told, replyOf, listed, ranBy, ranEntry, ranList, ranReport}
+use Rattle.lists.specs.Cut.{Run, run, countedBy, ranOf, tally, sixTally, idleTally, nextTally, openTally, idleNumber, refusedTurn, listed, ranBy, ranEntry, ranList, ranReport}
 use Rattle.lists.proofs.ListCut.{stopped, refused-on, list-cut}
 
 -- questions 1 to 3 as the code asks them
@@ -93,6 +94,13 @@ same-sizes : (s n : Settings) (i g : ℕ) → SameSizes (counted s i g) n → Sa
 unfolding counted
 same-sizes s n i g y = record { width-is = y .width-is; workers-is = y .workers-is; limit-is = y .limit-is; nodes-is = y .nodes-is }
 
+-- a worker with a call open is not refused by 8
+pub not-eight : (w : ℕ) (s : Settings) (i : ℕ) (n g k : List ℕ) → kindNo (headAt k i .kind) ≢ 0 → turn w s i (areas n g k) .reply .number ≢ 8
+unfolding question8 question7 load
+not-eight w s i n g k o e =
+    let y : not (eqb (kindNo (headAt k i .kind)) 0) ≡ false = eight-idle w (state s (areas n g k)) i e in
+    true-false (sym (ap not (ne-eqb _ _ o)) ∙ y)
+
 -- one entry of a list that goes on
 module _ (w : ℕ) (s : Settings) (t : Tally) (i : ℕ) (n g k : List ℕ) (z : t .number ≡ 0) (h : 1 ≤ t .left) (r : firstThree w (countedBy s t) (length n) (length g) (length k) ≡ 0) (l : i < s .workers) where
   abbrev now : Settings
@@ -133,14 +141,6 @@ module _ (w : ℕ) (s : Settings) (t : Tally) (i : ℕ) (n g k : List ℕ) (z : 
           let m : its .reply .number ≡ 6 = ap (λ (o : Result). o .reply .number) (sym x ∙ pick-false _ _ _ d) in
           by-six m (ap (λ (o : Tally). ranOf s o (areas n g k)) (f ∙ pick-false _ _ _ d))
 
-  -- a worker with a call open is not refused by 8
-  not-eight : 1 ≤ kindNo (headAt k i .kind) → its .reply .number ≢ 8
-  unfolding question8 question7 load
-  not-eight o e =
-      let y : not (eqb (kindNo (headAt k i .kind)) 0) ≡ false = eight-idle w (state now (areas n g k)) i e in
-      let v : not (eqb (kindNo (headAt k i .kind)) 0) ≡ true = ap not (ne-eqb (kindNo (headAt k i .kind)) 0 (λ p. omega arith)) in
-      true-false (sym v ∙ y)
-
   pub entry-open : {u : Tally} {d : Done} {b : Areas} {m : Settings} → u ≡ openTally t d → did d b ≡ didHere (m .width) m i (areas n g k) → m ≡ now → s .width ≡ w → 1 ≤ kindNo (headAt k i .kind) → ranOf s u b ≡ ranEntry w (ranOf s t (areas n g k)) i
   unfolding openTally ranBy didOf turnDone exchangeAt counted
   entry-open {u} {d} {b} {m} f e p v o = by (ℕ-discrete (its .reply .number) 6)
@@ -161,7 +161,7 @@ module _ (w : ℕ) (s : Settings) (t : Tally) (i : ℕ) (n g k : List ℕ) (z : 
           ap (λ (v : Tally). ranOf s v b) (f ∙ pick-false _ _ _ (ne-eqb (d .number) 6 (λ v. y (sym c ∙ v))))
           ∙ ap (λ (v : Did). ranOf s (nextTally t (v .done) (t .done + doneIn (v .done .exchange)) (t .failed + failedIn (v .done .exchange))) (v .areas)) did-is
           ∙ ap (λ (v : Settings). run 0 (state v (its .areas)) (t .left - 1) (t .done + doneIn made) (t .failed + failedIn made)) (counted-is s (its .reply .settings) q)
-          ∙ sym (entry-by ∙ pick-false _ _ _ (ne-eqb (its .reply .number) 6 y) ∙ pick-false _ _ _ (ne-eqb (its .reply .number) 8 (not-eight o)))
+          ∙ sym (entry-by ∙ pick-false _ _ _ (ne-eqb (its .reply .number) 6 y) ∙ pick-false _ _ _ (ne-eqb (its .reply .number) 8 (not-eight w now i n g k (λ z. omega arith))))
 
 -- a turn of an idle worker
 module _ (v : ℕ) {b : Bool} (e : b ≡ leb v 3) where
@@ -173,14 +173,55 @@ module _ (v : ℕ) {b : Bool} (e : b ≡ leb v 3) where
   unfolding idleNumber
   idle-six y = sym (pick-false _ _ _ (sym e ∙ y))
 
-pub idle-turn-is : (s : Settings) (i : ℕ) (n g k : List ℕ) {d : Told} {b : Bool} {q v : ℕ} → d ≡ told q Nothing → q ≡ idleNumber v → v ≡ headAt k i .answer → b ≡ eqb (kindNo (headAt k i .kind)) 0 → b ≡ true → firstFour (s .width) s i (length n) (length g) (length k) ≡ 0 → result (replyOf d s) (areas n g k) ≡ turn (s .width) s i (areas n g k)
-unfolding idleNumber pick
-idle-turn-is s i n g k {d} {b} {q} {v} a f e o y z =
-    rw (a, f) (by (leb v 3)) ∙ sym (here-idle (s .width) s i n g k e o y) ∙ here-turn (s .width) s i n g k refl z
-  where
-    by : (d : Bool) → refused (pick d 8 6) s (areas n g k) ≡ pick d (refused 8 s (areas n g k)) (refused 6 s (areas n g k))
-    by true = refl
-    by false = refl
+-- the ways through what refuses a turn before its record is asked further
+module _ (w : ℕ) (s : Settings) (i : ℕ) (n g k : List ℕ) where
+  abbrev four : ℕ
+  four = firstFour w s i (length n) (length g) (length k)
+
+  pub refused-idle : {r v q : ℕ} {b : Bool} → r ≡ idleNumber v → v ≡ headAt k i .answer → b ≡ eqb (kindNo (headAt k i .kind)) 0 → b ≡ true → q ≡ four → q ≡ 0 → r ≡ refusedTurn w s i (areas n g k)
+  unfolding refusedTurn
+  refused-idle f e o y p z = f ∙ ap idleNumber e ∙ sym (pick-true _ _ _ (eq-eqb _ _ (sym p ∙ z)) ∙ pick-true _ _ _ (sym o ∙ y))
+
+  pub refused-none : {q : ℕ} {b : Bool} → b ≡ eqb (kindNo (headAt k i .kind)) 0 → b ≡ false → q ≡ four → q ≡ 0 → 0 ≡ refusedTurn w s i (areas n g k)
+  unfolding refusedTurn
+  refused-none o y p z = sym (pick-true _ _ _ (eq-eqb _ _ (sym p ∙ z)) ∙ pick-false _ _ _ (sym o ∙ y))
+
+  pub refused-four : {q : ℕ} → q ≡ four → (q ≡ 0 → ⊥) → q ≡ refusedTurn w s i (areas n g k)
+  unfolding refusedTurn
+  refused-four p z = p ∙ sym (pick-false _ _ _ (ne-eqb _ _ (λ y. z (p ∙ y))))
+
+  -- a turn that is refused so
+  idle-refused : four ≡ 0 → eqb (kindNo (headAt k i .kind)) 0 ≡ true → refused (idleNumber (headAt k i .answer)) s (areas n g k) ≡ turn w s i (areas n g k)
+  unfolding idleNumber pick
+  idle-refused z y = by (leb (headAt k i .answer) 3) ∙ sym (here-idle w s i n g k refl refl y) ∙ here-turn w s i n g k refl z
+    where
+      by : (d : Bool) → refused (pick d 8 6) s (areas n g k) ≡ pick d (refused 8 s (areas n g k)) (refused 6 s (areas n g k))
+      by true = refl
+      by false = refl
+
+  pub turn-refused : {r : Reply} {q : ℕ} → r ≡ reply q Nothing 0 s → q ≡ refusedTurn w s i (areas n g k) → (q ≡ 0 → ⊥) → result r (areas n g k) ≡ turn w s i (areas n g k)
+  unfolding refusedTurn
+  turn-refused {r} {q} a e z = by (eqb four 0) refl (eqb (kindNo (headAt k i .kind)) 0) refl
+    where
+      by : (x : Bool) → eqb four 0 ≡ x → (y : Bool) → eqb (kindNo (headAt k i .kind)) 0 ≡ y → result r (areas n g k) ≡ turn w s i (areas n g k)
+      by true x true y =
+          let v : q ≡ idleNumber (headAt k i .answer) = e ∙ pick-true _ _ _ x ∙ pick-true _ _ _ y in
+          rw (a, v) (idle-refused (eqb-true _ _ x) y)
+      by true x false y = absurd (z (e ∙ pick-true _ _ _ x ∙ pick-false _ _ _ y))
+      by false x y v = below.turn-refused w s i n g k a (e ∙ pick-false _ _ _ x) z
+
+  -- and one that is not: questions 1 to 4 are answered yes, and the worker has a call open
+  pub turn-four : refusedTurn w s i (areas n g k) ≡ 0 → four ≡ 0
+  unfolding refusedTurn
+  turn-four e = both-zero (four) _ e .0
+
+  pub turn-open : refusedTurn w s i (areas n g k) ≡ 0 → kindNo (headAt k i .kind) ≢ 0
+  unfolding refusedTurn idleNumber pick
+  turn-open e z = by (leb (headAt k i .answer) 3) (sym (pick-true _ (idleNumber (headAt k i .answer)) 0 (eq-eqb _ _ z)) ∙ both-zero (four) _ e .1)
+    where
+      by : (d : Bool) → _≡_ {A = ℕ} (pick d 8 6) 0 → ⊥
+      by true y = omega arith
+      by false y = omega arith
 
 -- where a list begins
 module _ (s : Settings) (limit : ℕ) (n g k : List ℕ) where
@@ -229,6 +270,20 @@ list-more w l k u a c b h = rw (add-one, a, c) (rw (drop-cons l k 0) at b)
 pub list-all : (w : ℕ) (l : List ℕ) (k : ℕ) {u x : Run} → ranList w (drop k l) u ≡ x → length l ≤ k → u ≡ x
 unfolding ranList
 list-all w l k b h = rw drop-of-length-le at b
+
+-- a list with its first entry apart: its places, the first entry, the next one
+module _ (m : ℕ) (l : List ℕ) where
+  pub place-in : (k : ℕ) → k ≤ length l → k < length (m ∷ l)
+  place-in k h = omega arith
+
+  pub first-entry : 0 ≤ length l → m ≡ getD (m ∷ l) 0 0
+  first-entry h = refl
+
+  pub next-entry : (k : ℕ) {i v : ℕ} → i ≡ v → v ≡ getD l k 0 → k + 1 ≤ length l → i ≡ getD (m ∷ l) (k + 1) 0
+  next-entry k p q h = rw add-one (p ∙ q)
+
+  pub no-next : (k : ℕ) {i : ℕ} → length l ≤ k → k + 1 ≤ length l → i ≡ getD (m ∷ l) (k + 1) 0
+  no-next k p h = absurd (omega arith)
 
 -- a list that goes no further
 pub list-left : (w : ℕ) (l : List ℕ) (s : Settings) (t : Tally) (a : Areas) {x : Run} → ranList w l (ranOf s t a) ≡ x → t .left ≡ 0 → ranOf s t a ≡ x
@@ -283,32 +338,43 @@ by-three true true false d = refl
 by-three true true true false = refl
 by-three true true true true = refl
 
-module _ (w : ℕ) (s : Settings) (l : List ℕ) (limit : ℕ) (n g k : List ℕ) where
+module _ (w : ℕ) (s : Settings) (l : List ℕ) (n g k : List ℕ) where
   list-first : firstNo (listQuestions w s l (areas n g k)) ≡ pick (eqb (firstThree w s (length n) (length g) (length k)) 0) (pick (question4All s l) 0 4) (firstThree w s (length n) (length g) (length k))
   unfolding listQuestions firstThree
   list-first = by-three _ _ _ _
 
-  -- a list that is refused has no turns of its own
-  list-no : {t : Tally} {q : ℕ} → t ≡ tally q 0 0 limit 0 0 → firstNo (listQuestions w s l (areas n g k)) ≡ q → q ≢ 0 → listed limit t s (areas n g k) ≡ listReport w s l limit (areas n g k)
-  unfolding listReport many.turns unlessRefused listEvents total pick
-  list-no a e z =
-      let b : eqb (firstNo (listQuestions w s l (areas n g k))) 0 ≡ false = ne-eqb _ _ (λ y. z (sym e ∙ y)) in
-      let o : limit - limit ≡ 0 = omega arith in
-      rw (a, b, o) (ap (λ (y : ℕ). report (refused y s (areas n g k)) 0 0) (sym e))
-
-  pub turns-refused : {t : Tally} {q : ℕ} → t ≡ tally q 0 0 limit 0 0 → q ≡ firstThree w s (length n) (length g) (length k) → (q ≡ 0 → ⊥) → listed limit t s (areas n g k) ≡ listReport w s l limit (areas n g k)
-  turns-refused a e z = list-no a (list-first ∙ pick-false _ _ _ (ne-eqb _ _ (λ y. z (e ∙ y))) ∙ sym e) z
-
-  pub turns-four : {t : Tally} {q m : ℕ} {b : Bool} → t ≡ tally 4 0 0 limit 0 0 → b ≡ every (λ i. ltb i m) l → m ≡ s .workers → b ≡ false → q ≡ firstThree w s (length n) (length g) (length k) → q ≡ 0 → listed limit t s (areas n g k) ≡ listReport w s l limit (areas n g k)
+  -- the ways through questions 1 to 4 of a list
+  pub list-four : {q : ℕ} {b : Bool} → b ≡ every (λ i. ltb i (s .workers)) l → b ≡ false → q ≡ firstThree w s (length n) (length g) (length k) → q ≡ 0 → 4 ≡ firstNo (listQuestions w s l (areas n g k))
   unfolding question4All question4
-  turns-four a f o y e z =
-      let v : every (λ i. ltb i (s .workers)) l ≡ false = ap (λ (u : ℕ). every (λ i. ltb i u) l) (sym o) ∙ sym f ∙ y in
-      list-no a (list-first ∙ pick-true _ _ _ (eq-eqb _ _ (sym e ∙ z)) ∙ pick-false _ _ _ v) (λ y. omega arith)
+  list-four f y e z = sym (list-first ∙ pick-true _ _ _ (eq-eqb _ _ (sym e ∙ z)) ∙ pick-false _ _ _ (sym f ∙ y))
 
-  pub turns-done : (t : Tally) {c : Settings} {x : Areas} {q m : ℕ} {b : Bool} → c ≡ countedBy s t → ranOf s t x ≡ ranList w l (run 0 (state s (areas n g k)) limit 0 0) → b ≡ every (λ i. ltb i m) l → m ≡ s .workers → b ≡ true → q ≡ firstThree w s (length n) (length g) (length k) → q ≡ 0 → listed limit t c x ≡ listReport w s l limit (areas n g k)
-  unfolding listReport many.turns unlessRefused listEvents ranReport question4All question4 pick
-  turns-done t a o f p y e z =
-      let y₃ = three-yes w s (length n) (length g) (length k) (sym e ∙ z) in
-      let v : every (λ i. ltb i (s .workers)) l ≡ true = ap (λ (u : ℕ). every (λ i. ltb i u) l) (sym p) ∙ sym f ∙ y in
-      let i : eqb (firstNo (listQuestions w s l (areas n g k))) 0 ≡ true = eq-eqb _ _ (list-first ∙ pick-true _ _ _ (eq-eqb _ _ (sym e ∙ z)) ∙ pick-true _ _ _ v) in
-      rw (a, i) (ap (ranReport limit) o ∙ list-cut w s l limit (areas n g k) (y₃ .0) (y₃ .1) (y₃ .2) v)
+  pub list-yes : {q : ℕ} {b : Bool} → b ≡ every (λ i. ltb i (s .workers)) l → b ≡ true → q ≡ firstThree w s (length n) (length g) (length k) → q ≡ 0 → 0 ≡ firstNo (listQuestions w s l (areas n g k))
+  unfolding question4All question4
+  list-yes f y e z = sym (list-first ∙ pick-true _ _ _ (eq-eqb _ _ (sym e ∙ z)) ∙ pick-true _ _ _ (sym f ∙ y))
+
+  pub list-three : {q : ℕ} → q ≡ firstThree w s (length n) (length g) (length k) → (q ≡ 0 → ⊥) → q ≡ firstNo (listQuestions w s l (areas n g k))
+  list-three e z = e ∙ sym (list-first ∙ pick-false _ _ _ (ne-eqb _ _ (λ y. z (e ∙ y))))
+
+  -- what a yes to them says
+  module _ {q : ℕ} (e : q ≡ firstNo (listQuestions w s l (areas n g k))) (z : q ≡ 0) where
+    pub asked-three : firstThree w s (length n) (length g) (length k) ≡ 0
+    asked-three = both-zero (firstThree w s (length n) (length g) (length k)) _ (sym list-first ∙ sym e ∙ z) .0
+
+    pub asked-below : every (λ i. ltb i (s .workers)) l ≡ true
+    unfolding question4All question4
+    asked-below = four-yes _ (both-zero (firstThree w s (length n) (length g) (length k)) _ (sym list-first ∙ sym e ∙ z) .1)
+
+    -- the list is carried out as the code tallies it
+    pub list-done : (limit : ℕ) (t : Tally) {x : Areas} → ranOf s t x ≡ ranList w l (run 0 (state s (areas n g k)) limit 0 0) → listed limit t (countedBy s t) x ≡ listReport w s l limit (areas n g k)
+    unfolding listReport many.turns unlessRefused listEvents ranReport pick question4All question4
+    list-done limit t o =
+        let y = three-yes w s (length n) (length g) (length k) asked-three in
+        let i : eqb (firstNo (listQuestions w s l (areas n g k))) 0 ≡ true = eq-eqb _ _ (sym e ∙ z) in
+        rw i (ap (ranReport limit) o ∙ list-cut w s l limit (areas n g k) (y .0) (y .1) (y .2) asked-below)
+
+  -- a list that is refused has no turns of its own
+  pub list-refused : (limit : ℕ) {q : ℕ} → q ≡ firstNo (listQuestions w s l (areas n g k)) → (q ≡ 0 → ⊥) → report (refused q s (areas n g k)) 0 0 ≡ listReport w s l limit (areas n g k)
+  unfolding listReport many.turns unlessRefused listEvents total pick
+  list-refused limit e z =
+      let b : eqb (firstNo (listQuestions w s l (areas n g k))) 0 ≡ false = ne-eqb _ _ (λ y. z (e ∙ y)) in
+      rw b (ap (λ (y : ℕ). report (refused y s (areas n g k)) 0 0) e)

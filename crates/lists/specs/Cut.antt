@@ -1,26 +1,27 @@
 -- The parts in which the code carries out a list of turns. They follow the code's cut and are tied to the operation's definition by
--- lemmas. Relies on rules for the operations.
+-- lemmas. Relies on rules for the operations, on table for questions 1 to 4.
 use Prim.Native.Nat.{ℕ, _+_, _-_}
+use mathlib.Core.Bool.{Bool}
 use mathlib.Core.List.{List, [], _∷_}
 use lib.Dec.{eqb, leb}
-use lib.ListN.{getD}
-use Rattle.words.specs.Choice.{pick}
+use lib.ListN.{length}
+use Rattle.words.specs.Choice.{pick, both}
 use Rattle.settings.specs.Cut.{counted}
 use Rattle.settings.specs.declared.Settings.{Settings}
 use Rattle.areas.specs.Memory.{Areas}
-use Rattle.record.specs.declared.Answer.{Answer}
 use Rattle.record.specs.declared.Answer.the-variants.{Nothing}
 use Rattle.record.specs.declared.Exchange.{Exchange}
 use Rattle.record.specs.declared.Head.{Head}
 use Rattle.record.specs.declared.Reply.{Reply}
 use Rattle.record.specs.Kinds.{kindNo}
+use Rattle.record.specs.Layout.{headAt}
 use Rattle.rules.specs.Operations.{Result, result, reply, turn, lastOf}
 use Rattle.rules.specs.Lists.{State, state, after}
 use Rattle.rules.specs.Calls.{turns}
 use Rattle.rules.specs.Exchanges.{exchangeAt, doneIn, failedIn, Report, report}
+use Rattle.table.specs.Cut.{firstFour}
 use Rattle.turns.specs.declared.Done.{Done}
 use Rattle.lists.specs.declared.Tally.{Tally}
-use Rattle.lists.specs.declared.Listed.{Listed}
 use Rattle.lists.specs.declared.Told.{Told}
 
 -- where a list of turns stands: 0 or 6, the state, the turns that may still be done, and the exchanges done and failed
@@ -61,6 +62,10 @@ countedBy s t = counted s (t .«nodes_taken») (t .«levels_taken»)
 abbrev pub ranOf : Settings → Tally → Areas → Run
 ranOf s t a = run (t .number) (state (countedBy s t) a) (t .left) (t .done) (t .failed)
 
+-- that a tally's counts are those of the settings
+abbrev pub sameCounts : Settings → Tally → Bool
+sameCounts s t = both (eqb (t .«nodes_taken») (s .«nodes_taken»)) (eqb (t .«levels_taken») (s .«levels_taken»))
+
 -- a tally by its parts
 abbrev pub tally : ℕ → ℕ → ℕ → ℕ → ℕ → ℕ → Tally
 tally n i g l d f = record { number = n; «nodes_taken» = i; «levels_taken» = g; left = l; done = d; failed = f }
@@ -78,10 +83,6 @@ nextTally t d done failed = tally 0 (d .«nodes_taken») (d .«levels_taken») (
 unfoldable pub openTally : Tally → Done → Tally
 openTally t d = pick (eqb (d .number) 6) (sixTally t) (nextTally t d (t .done + doneIn (d .exchange)) (t .failed + failedIn (d .exchange)))
 
--- what a list gives, by its parts
-abbrev pub reported : Reply → ℕ → ℕ → Listed
-reported r d f = record { reply = r; done = d; failed = f }
-
 -- the number of a turn of an idle worker, by the number of its last answer
 unfoldable pub idleNumber : ℕ → ℕ
 idleNumber v = pick (leb v 3) 8 6
@@ -90,24 +91,20 @@ idleNumber v = pick (leb v 3) 8 6
 unfoldable pub numberBy : Head → ℕ
 numberBy h = pick (eqb (kindNo (h .kind)) 0) (pick (eqb (h .answer) 3) 9 0) 0
 
--- what a turn tells beside the settings, its reply with them, and what a list reports with them
-abbrev pub told : ℕ → Answer → Told
-told n a = record { number = n; answer = a }
+-- what a turn that was done tells beside the settings, by its worker's head after it, and its reply with them
+abbrev pub toldBy : Head → Told
+toldBy h = record { number = numberBy h; answer = lastOf h }
 
-abbrev pub replyOf : Told → Settings → Reply
-replyOf d s = reply (d .number) (d .answer) 0 s
+abbrev pub toldReply : Head → Settings → Reply
+toldReply h s = reply (numberBy h) (lastOf h) 0 s
 
+-- the number that refuses a turn before its record is asked further: questions 1 to 4, then 8 or 6 of an idle worker; 0 where the worker has a call open
+unfoldable pub refusedTurn : ℕ → Settings → ℕ → Areas → ℕ
+refusedTurn w s i a =
+    let q = firstFour w s i (length (a .nodes)) (length (a .levels)) (length (a .workers)) in
+    let h = headAt (a .workers) i in
+    pick (eqb q 0) (pick (eqb (kindNo (h .kind)) 0) (idleNumber (h .answer)) 0) q
+
+-- what a list reports where it is tallied so, with its settings then
 abbrev pub listed : ℕ → Tally → Settings → Areas → Report
 listed limit t s a = report (result (reply (t .number) Nothing (limit - t .left) s) a) (t .done) (t .failed)
-
--- what one turn tells, from the tally of a list of it alone and the worker's head after it
-unfoldable pub toldOne : Tally → Head → Told
-toldOne t h = pick (eqb (t .number) 6) (told 6 Nothing) (pick (eqb (t .left) 0) (told (numberBy h) (lastOf h)) (told 8 Nothing))
-
--- the settings as the code carries them: six words, and one behind them
-unfoldable pub wordsOf : Settings → List ℕ
-wordsOf s = s .workers ∷ s .limit ∷ s .nodes ∷ s .«nodes_taken» ∷ s .«levels_taken» ∷ s .width ∷ 0 ∷ []
-
-unfoldable pub settingsOf : List ℕ → Settings
-settingsOf c =
-    record { workers = getD c 0 0; limit = getD c 1 0; nodes = getD c 2 0; «nodes_taken» = getD c 3 0; «levels_taken» = getD c 4 0; width = getD c 5 0 }

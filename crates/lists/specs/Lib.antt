@@ -1,3 +1,3 @@
 -- The code's own cut of a list of turns; a reader need not believe it.
--- Relies on rules.
+-- Relies on rules and table.
 pub mod Cut

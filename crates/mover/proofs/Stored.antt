@@ -12,7 +12,7 @@ use native.Mathlib.Omega.{arith}
 use Rattle.words.specs.Choice.{pick}
 use Rattle.words.specs.Blocks.{cells}
 use Rattle.words.proofs.Blocks.{above-sets, sets-cells, getD-cells, length-cells, sets-skip, set-sets, sets-set}
-use Rattle.settings.specs.Sizes.{headWords, moveWords, maxLimit}
+use Rattle.settings.specs.Sizes.{headWords, moveWords, maxLimit, mostDepth, workerWords}
 use Rattle.record.specs.declared.Head.{Head}
 use Rattle.record.specs.declared.Move.{Move}
 use Rattle.record.specs.Kinds.{kindNo}
@@ -31,26 +31,40 @@ unfolding lastAt
 last-way l p a b c = simp (a, b, c)
 
 pub inner-way :
-    (l : List ℕ) (p : ℕ) {h g c n : ℕ}
-    → h ≡ getD l p 0 → g ≡ getD l (p + 1) 0 → c ≡ getD l (p + 2) 0 → n ≡ lastAt l p → record { home = h; child = g; count = c; last = n } ≡ innerAt l p
-unfolding innerAt
-inner-way l p a b c d = simp (a, b, c, d)
+    (l : List ℕ) (p : ℕ) {k : ℕ}
+    → k ≡ getD l (p + 2) 0 - 1 → record { home = getD l p 0; child = getD l (p + 1) 0; count = getD l (p + 2) 0; last = getD l (p + 3 + k) 0 } ≡ innerAt l p
+unfolding innerAt lastAt
+inner-way l p a = simp a
 
 module _ (v : Inner) (p : ℕ) (l : List ℕ) where
   pub last-more :
-      {l′ : List ℕ} {c : ℕ} → l′ ≡ set l (p + 2 + v .count) (v .last) → c ≡ getD l (p + 2) 0 → ltb c (v .count) ≡ true → l′ ≡ lastTo v p l
+      {l′ : List ℕ} → l′ ≡ set l (p + 2 + v .count) (v .last) → ltb (getD l (p + 2) 0) (v .count) ≡ true → l′ ≡ lastTo v p l
   unfolding lastTo pick
-  last-more a b e = simp (← b, e, a)
+  last-more a e = simp (e, a)
 
-  pub last-none : {c : ℕ} → c ≡ getD l (p + 2) 0 → ltb c (v .count) ≡ false → l ≡ lastTo v p l
+  pub last-none : ltb (getD l (p + 2) 0) (v .count) ≡ false → l ≡ lastTo v p l
   unfolding lastTo pick
-  last-none b e = simp (← b, e)
+  last-none e = simp e
 
-  pub on-way : {l₁ l₂ : List ℕ} → l₂ ≡ set l₁ (p + 2) (v .count) → l₁ ≡ lastTo v p l → l₂ ≡ innerOn v p l
+  pub on-way : {l₁ : List ℕ} → l₁ ≡ lastTo v p l → set l₁ (p + 2) (v .count) ≡ innerOn v p l
   unfolding innerOn
-  on-way a b = simp (a, b)
+  on-way a = simp a
 
 module _ (l : List ℕ) (i : ℕ) where
+  -- the innermost Move lies inside the worker's words, since a worker has few enough of them
+  pub move-there :
+      {n m j p : ℕ}
+      → p ≡ movePlace i j → j ≡ n - 1 → n ≡ m → m ≤ mostDepth → workerWords * i + workerWords ≤ length l → p + moveWords ≤ length l
+  unfolding movePlace workerPlace
+  move-there a b e c h = omega arith
+
+  -- and the number of nodes that it remembers is read there
+  pub count-there :
+      {n j p : ℕ}
+      → p ≡ movePlace i j → j ≡ n - 1 → n ≡ movesAt l i → moveAt l i (movesAt l i - 1) .count ≤ maxLimit → getD l (p + 2) 0 ≤ maxLimit
+  unfolding moveAt moveFrom
+  count-there a b e c = rw (a, b, e) c
+
   pub outer-none : (n : ℕ) → leb n 1 ≡ true → 0 ≡ outerAt l i n
   unfolding outerAt pick
   outer-none n e = simp e

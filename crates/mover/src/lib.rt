@@ -2,12 +2,14 @@
 // Relies on steps for what searching and moving do alike, on rules for the definitions.
 ghost use mathlib.Core.Path.{_≡_};
 ghost use mathlib.Core.List.{_∷_};
-ghost use Prim.Native.Nat.{_+_, _-_, _≤_};
+ghost use Prim.Native.Nat.{_+_, _*_, _-_, _≤_};
+ghost use lib.ListN.{length, getD};
 ghost use Rattle.words.specs.Choice.{both};
 ghost use Rattle.words.specs.Digits.{DigitWidth};
-ghost use Rattle.settings.specs.Sizes.{maxLimit, mostDepth};
+ghost use Rattle.settings.specs.Sizes.{maxLimit, mostDepth, moveWords, workerWords};
 ghost use Rattle.settings.specs.Cut.{Sized};
 ghost use Rattle.areas.specs.Memory.{memory, nextAt, nodeTaken};
+ghost use Rattle.record.specs.Layout.{movesAt, moveAt};
 ghost use Rattle.rules.specs.Heads.{lastNode};
 ghost use Rattle.rules.specs.Moving.{chainHead, chainNext, setNext, setLook, setPut, setRead, setTail, setAppend, setLevel, setClose, setFollow, moveEnd, setCellOf};
 ghost use Rattle.rules.specs.Asked.{tails, takesLevel, chainHeads, chainNexts, setNexts, standsSetting, setEntry, setPuts, setLooks, setAppends, setCloses, setFollows, moveEnds, readsBy};
@@ -231,42 +233,47 @@ fn store_head(h: Head, moves: u32, words: &mut [u32], i: u32)
 }
 
 impl Inner {
-    // What a turn needs of the Move at place p.
+    // What a turn needs of the Move at place p, whose words lie inside those of its worker: they are read without a test.
     fn load(words: &[u32], p: usize) -> Inner
-        requires { ⌜ p ≤ 1200000000000 ⌝ }
+        requires { ⌜ p + moveWords ≤ length (now words) ⌝ }
+        requires { ⌜ getD (now words) (p + 2) 0 ≤ maxLimit ⌝ }
         ensures { λ r. ⌜ r ≡ innerAt (now (words .entry)) p ⌝ }
     {
+        let c = words[p + 2];
         Inner {
-            home: at(words, p),
-            child: at(words, p + 1),
-            count: at(words, p + 2),
-            last: last_at(words, p),
+            home: words[p],
+            child: words[p + 1],
+            count: c,
+            last: words[p + 3 + (less_one(c) as usize)],
         }
     }
 
     // A node that has been remembered in this turn is written.
     fn store_last(self, words: &mut [u32], p: usize)
-        requires { ⌜ p ≤ 1200000000000 ⌝ }
+        requires { ⌜ p + moveWords ≤ length (now words) ⌝ }
         ensures { λ r. ⌜ now (words .exit) ≡ lastTo self p (now (words .entry)) ⌝ }
     {
-        if at(words, p + 2) < self.count {
+        if words[p + 2] < self.count {
             put(words, p + 2 + (self.count as usize), self.last);
         } else {}
     }
 
     // What a turn can change of the Move at place p: how many nodes it remembers, and the last of them where that is one more.
     fn store(self, words: &mut [u32], p: usize)
-        requires { ⌜ p ≤ 1200000000000 ⌝ }
+        requires { ⌜ p + moveWords ≤ length (now words) ⌝ }
         ensures { λ r. ⌜ now (words .exit) ≡ innerOn self p (now (words .entry)) ⌝ }
     {
         self.store_last(words, p);
-        put(words, p + 2, self.count);
+        words[p + 2] = self.count;
     }
 }
 
 impl Mover {
     // The mover of worker i with the head h, as its words say.
     pub fn load(words: &[u32], i: u32, h: Head) -> Mover
+        requires { ⌜ workerWords * i + workerWords ≤ length (now words) ⌝ }
+        requires { ⌜ movesAt (now words) i ≤ mostDepth ⌝ }
+        requires { ⌜ moveAt (now words) i (movesAt (now words) i - 1) .count ≤ maxLimit ⌝ }
         ensures { λ r. ⌜ r ≡ moverAt (now (words .entry)) i h ⌝ }
     {
         let n = moves_at(words, i);
@@ -281,6 +288,8 @@ impl Mover {
 
     // The innermost Move is written: what changed of it, or all of one that has begun. Where one has ended, the one around it stands in the words.
     fn store_inner(self, before: u32, words: &mut [u32], i: u32)
+        requires { ⌜ workerWords * i + workerWords ≤ length (now words) ⌝ }
+        requires { ⌜ before ≤ mostDepth ⌝ }
         ensures { λ r. ⌜ now (words .exit) ≡ innerTo before self i (now (words .entry)) ⌝ }
     {
         let n = self.moves;
@@ -296,6 +305,8 @@ impl Mover {
 
     // What a turn can change is written to the words of worker i.
     pub fn store(self, words: &mut [u32], i: u32)
+        requires { ⌜ workerWords * i + workerWords ≤ length (now words) ⌝ }
+        requires { ⌜ movesAt (now words) i ≤ mostDepth ⌝ }
         ensures { λ r. ⌜ now (words .exit) ≡ moverTo self i (now (words .entry)) ⌝ }
     {
         let before = moves_at(words, i);

@@ -9,11 +9,12 @@ use lib.Dec.{eqb, leb}
 use lib.ListN.{length}
 use borrow.Author.Tests.{ne-eqb, eqb-true, le-leb, lt-leb, leb-true}
 use Rattle.words.specs.Choice.{pick, both, every}
+use Rattle.words.specs.Digits.{DigitWidth, lastDepth}
 use Rattle.words.proofs.Choice.{pick-both, pick-true, pick-false, both-left, both-right, both-true, true-false}
-use Rattle.settings.specs.Sizes.{maxLimit, maxMoves, within}
+use Rattle.settings.specs.Sizes.{maxLimit, maxMoves, mostDepth, within}
 use Rattle.settings.specs.Cut.{Sized}
 use Rattle.settings.specs.declared.Settings.{Settings}
-use Rattle.settings.proofs.Laws.{within-true}
+use Rattle.settings.proofs.Laws.{within-true, depths-most}
 use Rattle.areas.specs.Memory.{Memory, memory, areas}
 use Rattle.record.specs.declared.Exchange.{Exchange}
 use Rattle.record.specs.declared.Exchange.the-variants.{None}
@@ -23,6 +24,7 @@ use Rattle.record.specs.declared.Move.{Move}
 use Rattle.record.specs.Kinds.{kindNo}
 use Rattle.record.specs.Layout.{record′, load, headAt, movesAt, moveFrom, moveAt, firstMoves, store}
 use Rattle.record.specs.Fits.{fits, fitsBy, callFits, movingFits, movesFit, innerFits, outerFits}
+use Rattle.record.proofs.Pieces.{length-first}
 use Rattle.rules.specs.Acts.{inner, outer, actBy}
 use Rattle.rules.specs.Asked.{readsBy, takesNode, question9}
 use Rattle.rules.specs.Steps.{Step}
@@ -82,6 +84,14 @@ module _ (w : ℕ) (s : Settings) (l : List ℕ) (i : ℕ) (f : fits w s (load l
   moves-least : 1 ≤ movesAt l i
   moves-least = first-fits (movesAt l i) (fits-list .1) .0
 
+  moves-most : DigitWidth w → movesAt l i ≤ mostDepth
+  unfolding maxMoves
+  moves-most d =
+      let n : length (firstMoves l i (movesAt l i)) ≡ movesAt l i = length-first l i (movesAt l i) in
+      let m : length (firstMoves l i (movesAt l i)) ≤ lastDepth w = leb-true _ _ (fits-list .0) in
+      let t : lastDepth w ≤ mostDepth = depths-most d in
+      omega arith
+
   inner-most : Sized s → moveAt l i (movesAt l i - 1) .count ≤ maxLimit
   unfolding innerFits
   inner-most z =
@@ -95,6 +105,14 @@ module _ (w : ℕ) (s : Settings) (l : List ℕ) (i : ℕ) (f : fits w s (load l
       let q = within-true _ _ (second-fits (movesAt l i) two (fits-list .1)) in
       let a = z .ranges .limit .high in
       omega arith
+
+-- the places that loading and storing a mover index lie in the worker's words: there are few enough Moves, and nodes remembered by the innermost one
+module _ (s : Settings) (l : List ℕ) (i : ℕ) (h : Head) where
+  pub few-moves : h ≡ headAt l i → Sized s → fits (s .width) s (load l i) ≡ true → 11 ≤ kindNo (h .kind) → movesAt l i ≤ mostDepth
+  few-moves e z f k = moves-most (s .width) s l i f (rw e at k) (z .ranges .width)
+
+  pub few-nodes : h ≡ headAt l i → Sized s → fits (s .width) s (load l i) ≡ true → 11 ≤ kindNo (h .kind) → moveAt l i (movesAt l i - 1) .count ≤ maxLimit
+  few-nodes e z f k = inner-most (s .width) s l i f (rw e at k) z
 
 -- the bounds of a mover that is loaded
 module _ (w : ℕ) (s : Settings) (l : List ℕ) (i : ℕ) (h : Head) (v : Mover) where

@@ -142,6 +142,7 @@ fn move_turn(
     workers: &mut [u32],
 ) -> Done
     requires { ⌜ Sized s ⌝ }
+    requires { ⌜ workerWords * i + workerWords ≤ length (now workers) ⌝ }
     requires { ⌜ h ≡ headAt (now workers) i ⌝ }
     requires { ⌜ fits (s .width) s (load (now workers) i) ≡ true ⌝ }
     requires { ⌜ 11 ≤ kindNo (h .kind) ⌝ }
@@ -195,6 +196,7 @@ fn move_here(
     workers: &mut [u32],
 ) -> Done
     requires { ⌜ Sized s ⌝ }
+    requires { ⌜ workerWords * i + workerWords ≤ length (now workers) ⌝ }
     requires { ⌜ h ≡ headAt (now workers) i ⌝ }
     requires { ⌜ 11 ≤ kindNo (h .kind) ⌝ }
     ensures { λ d. ⌜ did d (areas (now (nodes .exit)) (now (levels .exit)) (now (workers .exit))) ≡ didHere (s .width) s i (areas (now (nodes .entry)) (now (levels .entry)) (now (workers .entry))) ⌝ }

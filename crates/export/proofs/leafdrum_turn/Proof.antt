@@ -1,15 +1,20 @@
 -- `export::leafdrum_turn` meets its contract.
--- Relies on Exported.
+-- Relies on lists for each way in which a turn ends.
+use mathlib.Core.Path.{refl}
+use Rattle.words.proofs.Choice.{via}
+use Rattle.settings.specs.Cut.{counted}
+use Rattle.lists.proofs.Ways.{turn-refused}
+use Rattle.lists.proofs.One.{one-three, one-below, one-six, one-told, one-open, same-counted}
 use Rattle.export.proofs.Exported.{export-steps}
 use borrow.Author.Needs.{needs}
 use Rattle.export.proofs.leafdrum_turn.Statement.{statement}
 use Rattle.export.proofs.leafdrum_turn.Tie as tie
 
-turn-requires : tie.Need-turn-requires
-turn-requires c κs = search needs
+refused-turn-requires : tie.Need-refused-turn-requires
+refused-turn-requires c κs = search needs
 
-numbers-requires : tie.Need-numbers-requires
-numbers-requires c κs = search needs
+ended-refused-requires : tie.Need-ended-refused-requires
+ended-refused-requires c κs = search needs
 
 same-length : tie.Need-same-length
 same-length c = search needs
@@ -21,9 +26,133 @@ same-length-3 : tie.Need-same-length-3
 same-length-3 c = search needs
 
 returns : tie.Need-returns
-returns c = search (needs, export-steps)
+returns c = let b = c .before .before in
+    export-steps (c .ended-refused .ensures) (turn-refused _ _ _ _ _ _ refl (b .refused-turn .ensures) (c .before .if1 .left))
+
+array-share-prefix-none : tie.Need-array-share-prefix-none
+array-share-prefix-none c = search needs
+
+slice-aggregate-run-list : tie.Need-slice-aggregate-run-list
+slice-aggregate-run-list c = search needs
+
+run-list-requires : tie.Need-run-list-requires
+run-list-requires c κs = let b = c .before .before .before .before in
+    let o = via (b .before .refused-turn .ensures) (b .if1 .taken) in
+    (one-three _ _ _ _ _ o, one-below _ _ _ _ _ o refl)
+
+ended-refused-requires-2 : tie.Need-ended-refused-requires-2
+ended-refused-requires-2 c κs = search needs
+
+same-length-4 : tie.Need-same-length-4
+same-length-4 c = search needs
+
+same-length-5 : tie.Need-same-length-5
+same-length-5 c = search needs
+
+same-length-6 : tie.Need-same-length-6
+same-length-6 c = search needs
+
+returns-2 : tie.Need-returns-2
+returns-2 c = let r = c .before .before .before .before .before .before .before .before .before in
+    let b = r .before .before .before .before .before in
+    let o = via (b .before .refused-turn .ensures) (b .if1 .taken) in
+    export-steps (c .ended-refused2 .ensures) (one-six _ _ _ _ _ o _ (r .run-list .ensures) refl refl (c .before .if2 .taken))
+
+same-counts-requires : tie.Need-same-counts-requires
+same-counts-requires c κs = search needs
+
+idle-at-requires : tie.Need-idle-at-requires
+idle-at-requires c κs = search needs
+
+ended-told-requires : tie.Need-ended-told-requires
+ended-told-requires c κs = search needs
+
+same-length-7 : tie.Need-same-length-7
+same-length-7 c = search needs
+
+same-length-8 : tie.Need-same-length-8
+same-length-8 c = search needs
+
+same-length-9 : tie.Need-same-length-9
+same-length-9 c = search needs
+
+returns-3 : tie.Need-returns-3
+returns-3 c = let r = c .before .before .before .before .before .before .before .before .before .before .before .before .before .before .before in
+    let b = r .before .before .before .before .before in
+    let o = via (b .before .refused-turn .ensures) (b .if1 .taken) in
+    let e = c .before .before .before .before .before in
+    export-steps (c .ended-told .ensures) (one-told _ _ _ _ _ o _ (r .run-list .ensures) refl refl refl (same-counted _ (r .run-list .result) (e .before .same-counts .ensures) (e .if3 .taken)) (e .before .before .if2 .left))
+
+ended-open-requires : tie.Need-ended-open-requires
+ended-open-requires c κs = search needs
+
+same-length-10 : tie.Need-same-length-10
+same-length-10 c = search needs
+
+same-length-11 : tie.Need-same-length-11
+same-length-11 c = search needs
+
+same-length-12 : tie.Need-same-length-12
+same-length-12 c = search needs
+
+returns-4 : tie.Need-returns-4
+returns-4 c = let r = c .before .before .before .before .before .before .before .before .before .before .before .before .before .before in
+    let b = r .before .before .before .before .before in
+    let o = via (b .before .refused-turn .ensures) (b .if1 .taken) in
+    let e = c .before .before .before .before in
+    export-steps (c .ended-open .ensures) (one-open _ _ _ _ _ o _ (r .run-list .ensures) refl refl (c .before .before .idle-at .ensures) (c .before .if4 .left) (same-counted _ (r .run-list .result) (e .before .same-counts .ensures) (e .if3 .taken)) (e .before .before .if2 .left))
+
+ended-told-requires-2 : tie.Need-ended-told-requires-2
+ended-told-requires-2 c κs = search needs
+
+same-length-13 : tie.Need-same-length-13
+same-length-13 c = search needs
+
+same-length-14 : tie.Need-same-length-14
+same-length-14 c = search needs
+
+same-length-15 : tie.Need-same-length-15
+same-length-15 c = search needs
+
+returns-5 : tie.Need-returns-5
+unfolding counted
+returns-5 c = let r = c .before .before .before .before .before .before .before .before .before .before .before .before in
+    let b = r .before .before .before .before .before in
+    let o = via (b .before .refused-turn .ensures) (b .if1 .taken) in
+    export-steps (c .ended-told2 .ensures) (one-told _ _ _ _ _ o _ (r .run-list .ensures) refl refl refl refl (c .before .before .before .before .if2 .left))
 
 pub leafdrum-turn-spec : {M : Type 1} → statement M
 leafdrum-turn-spec =
     tie.close
-    (tie.spec turn-requires numbers-requires same-length same-length-2 same-length-3 returns)
+    (tie.spec
+    refused-turn-requires
+    ended-refused-requires
+    same-length
+    same-length-2
+    same-length-3
+    returns
+    array-share-prefix-none
+    slice-aggregate-run-list
+    run-list-requires
+    ended-refused-requires-2
+    same-length-4
+    same-length-5
+    same-length-6
+    returns-2
+    same-counts-requires
+    idle-at-requires
+    ended-told-requires
+    same-length-7
+    same-length-8
+    same-length-9
+    returns-3
+    ended-open-requires
+    same-length-10
+    same-length-11
+    same-length-12
+    returns-4
+    ended-told-requires-2
+    same-length-13
+    same-length-14
+    same-length-15
+    returns-5)

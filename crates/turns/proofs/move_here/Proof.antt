@@ -10,7 +10,7 @@ move-fits-requires : tie.Need-move-fits-requires
 move-fits-requires c κs = search needs
 
 move-turn-requires : tie.Need-move-turn-requires
-move-turn-requires c κs = (search needs, (search needs, (search (needs, via), search needs)))
+move-turn-requires c κs = (search needs, (search needs, (search needs, (search (needs, via), search needs))))
 
 refused-six-requires : tie.Need-refused-six-requires
 refused-six-requires c κs = search needs

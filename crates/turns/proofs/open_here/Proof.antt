@@ -19,7 +19,7 @@ search-here-requires : tie.Need-search-here-requires
 search-here-requires c κs = (search needs, (search needs, (search (needs, head-open), search (needs, kind-low))))
 
 move-here-requires : tie.Need-move-here-requires
-move-here-requires c κs = (search needs, (search needs, search (needs, kind-high)))
+move-here-requires c κs = (search needs, (search needs, (search needs, search (needs, kind-high))))
 
 refused-six-requires : tie.Need-refused-six-requires
 refused-six-requires c κs = search needs

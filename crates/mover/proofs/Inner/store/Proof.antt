@@ -8,11 +8,14 @@ use Rattle.mover.proofs.Inner.store.Tie as tie
 store-last-requires : tie.Need-store-last-requires
 store-last-requires c κs = search needs
 
-add-put : tie.Need-add-put
-add-put c = search needs
+add-words : tie.Need-add-words
+add-words c = search needs
 
-put-requires : tie.Need-put-requires
-put-requires c κs = search needs
+mul-words : tie.Need-mul-words
+mul-words c = search needs
+
+slice-write-words : tie.Need-slice-write-words
+slice-write-words c = search needs
 
 same-length : tie.Need-same-length
 same-length c = search needs
@@ -21,4 +24,6 @@ returns : tie.Need-returns
 returns c = search (needs, on-way)
 
 pub store-spec : {M : Type 1} → statement M
-store-spec = tie.close (tie.spec store-last-requires add-put put-requires same-length returns)
+store-spec =
+    tie.close
+    (tie.spec store-last-requires add-words mul-words slice-write-words same-length returns)

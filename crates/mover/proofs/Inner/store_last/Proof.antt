@@ -6,11 +6,14 @@ use borrow.Author.Needs.{needs}
 use Rattle.mover.proofs.Inner.store_last.Statement.{statement}
 use Rattle.mover.proofs.Inner.store_last.Tie as tie
 
-add-at : tie.Need-add-at
-add-at c = search needs
+add-if1 : tie.Need-add-if1
+add-if1 c = search needs
 
-at-requires : tie.Need-at-requires
-at-requires c κs = search needs
+mul-if1 : tie.Need-mul-if1
+mul-if1 c = search needs
+
+slice-read-if1 : tie.Need-slice-read-if1
+slice-read-if1 c = search needs
 
 add-put : tie.Need-add-put
 add-put c = search needs
@@ -30,9 +33,6 @@ same-length c = search needs
 returns : tie.Need-returns
 returns c = search (tests, last-more)
 
-same-length-2 : tie.Need-same-length-2
-same-length-2 c = search needs
-
 returns-2 : tie.Need-returns-2
 returns-2 c = search (tests, last-none)
 
@@ -40,13 +40,13 @@ pub store-last-spec : {M : Type 1} → statement M
 store-last-spec =
     tie.close
     (tie.spec
-    add-at
-    at-requires
+    add-if1
+    mul-if1
+    slice-read-if1
     add-put
     cast-put
     add-put-2
     put-requires
     same-length
     returns
-    same-length-2
     returns-2)

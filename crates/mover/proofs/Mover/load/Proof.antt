@@ -1,6 +1,6 @@
 -- `mover::Mover::load` meets its contract.
 -- Relies on Stored.
-use Rattle.mover.proofs.Stored.{load-way}
+use Rattle.mover.proofs.Stored.{move-there, count-there, load-way}
 use borrow.Author.Needs.{needs}
 use Rattle.mover.proofs.Mover.load.Statement.{statement}
 use Rattle.mover.proofs.Mover.load.Tie as tie
@@ -15,7 +15,7 @@ move-place-requires : tie.Need-move-place-requires
 move-place-requires c κs = search needs
 
 load-requires : tie.Need-load-requires
-load-requires c κs = search needs
+load-requires c κs = (search (needs, move-there), search (needs, count-there))
 
 outer-at-requires : tie.Need-outer-at-requires
 outer-at-requires c κs = search needs

@@ -1,6 +1,6 @@
 -- `mover::Mover::store_inner` meets its contract.
 -- Relies on Stored.
-use Rattle.mover.proofs.Stored.{inner-begun, inner-changed, inner-ended}
+use Rattle.mover.proofs.Stored.{move-there, inner-begun, inner-changed, inner-ended}
 use Rattle.words.proofs.Auto.{tests}
 use borrow.Author.Needs.{needs}
 use Rattle.mover.proofs.Mover.store_inner.Statement.{statement}
@@ -13,7 +13,7 @@ move-place-requires : tie.Need-move-place-requires
 move-place-requires c κs = search needs
 
 store-requires : tie.Need-store-requires
-store-requires c κs = search needs
+store-requires c κs = search (needs, move-there)
 
 fresh-requires : tie.Need-fresh-requires
 fresh-requires c κs = search needs
