@@ -11,17 +11,19 @@ typedef leafdrum_settings S;
 typedef leafdrum_reply R;
 R by_hand_open(S, LEAFDRUM_AREAS);
 R by_hand_start(S, uint32_t, uint32_t, uint32_t, LEAFDRUM_AREAS);
+R by_hand_view(S, uint32_t, uint32_t, uint32_t, LEAFDRUM_AREAS);
 R by_hand_turn(S, uint32_t, LEAFDRUM_AREAS);
 R by_hand_turns(S, const uint8_t *, size_t, uint32_t, LEAFDRUM_AREAS);
 
 typedef struct {
     R (*open)(S, LEAFDRUM_AREAS);
     R (*start)(S, uint32_t, uint32_t, uint32_t, LEAFDRUM_AREAS);
+    R (*view)(S, uint32_t, uint32_t, uint32_t, LEAFDRUM_AREAS);
     R (*turn)(S, uint32_t, LEAFDRUM_AREAS);
     R (*turns)(S, const uint8_t *, size_t, uint32_t, LEAFDRUM_AREAS);
 } table;
-static const table proved = {leafdrum_open, leafdrum_start, leafdrum_turn, leafdrum_turns};
-static const table by_hand = {by_hand_open, by_hand_start, by_hand_turn, by_hand_turns};
+static const table proved = {leafdrum_open, leafdrum_start, leafdrum_view, leafdrum_turn, leafdrum_turns};
+static const table by_hand = {by_hand_open, by_hand_start, by_hand_view, by_hand_turn, by_hand_turns};
 
 /* the widest levels take the largest area */
 enum { WORKERS = 16, NODES = 4096 };
@@ -40,8 +42,9 @@ static double now(void) {
     return t.tv_sec * 1e9 + t.tv_nsec;
 }
 
-enum load { FOUND, INSERT, MOVES };
-static const char *names[] = {"found", "insert", "moves"};
+/* in VIEWS worker 0 places and the others are viewers that look pixels up, half of which are there on the whole */
+enum load { FOUND, INSERT, MOVES, VIEWS };
+static const char *names[] = {"found", "insert", "moves", "views"};
 
 /* the k-th pixel: all differ; of MOVES each second one shares all digits but the last with the one before it, so that its chain moves down to the last level */
 static uint32_t pixel(enum load l, uint32_t k) {
@@ -87,7 +90,7 @@ static uint64_t sum_of(S s) {
 
 /* one pass of about `want` turns: the time of starts and turns (opening and filling apart), in *turns the turns and in *sum what they left */
 static double pass(const table *t, enum load l, uint32_t crew, uint32_t n, uint32_t width, int lists, uint64_t want, uint64_t *turns, uint64_t *sum) {
-    S s = {crew, l == MOVES ? 1 : 4, n, 0, 0, width};
+    S s = {crew, l == MOVES ? 1 : 4, n, 0, 0, l == VIEWS ? crew - 1 : 0, width};
     size_t lw = (size_t)LEAFDRUM_LEVEL_AREA(s.workers, s.limit, s.nodes, s.width);
     uint64_t done = 0;
     double spent = 0;
@@ -101,10 +104,11 @@ static double pass(const table *t, enum load l, uint32_t crew, uint32_t n, uint3
         }
         double a = now();
         /* FOUND asks for pixels that are there until enough turns are done; the others place each pixel once and open anew */
-        for (uint32_t k = 0; done < want && (l == FOUND || k + crew <= n); k += crew) {
+        uint32_t placing = crew - s.viewers;
+        for (uint32_t k = 0; done < want && (l == FOUND || k + placing <= n); k += placing) {
             for (uint32_t i = 0; i < crew; i++) {
-                uint32_t p = pixel(l, l == FOUND ? draw(n) : k + i);
-                s = t->start(s, i, p >> 12, p & 4095, AREAS).settings;
+                uint32_t p = pixel(l, l == FOUND || i >= placing ? draw(n) : k + i);
+                s = (i >= placing ? t->view : t->start)(s, i, p >> 12, p & 4095, AREAS).settings;
             }
             done += rest(t, &s, crew, n, lw, lists);
         }
@@ -133,7 +137,7 @@ static void row(enum load l, uint32_t crew, uint32_t n, uint32_t width) {
     fflush(stdout);
 }
 
-/* width 3 with every number of workers and nodes, then the other widths with 4 workers and 4,096 nodes */
+/* width 3 with every number of workers and nodes, then the other widths with 4 workers and 4,096 nodes, then viewers */
 int main(void) {
     static const uint32_t crews[] = {1, 4, 16}, sizes[] = {64, 512, 4096}, widths[] = {LEAFDRUM_WIDTH_2, LEAFDRUM_WIDTH_4, LEAFDRUM_WIDTH_6};
     printf("load    workers nodes  width | single turns: proved  by hand  ratio | lists: proved  by hand  ratio   (ns a turn with its share of starts, least of 5)\n");
@@ -142,5 +146,6 @@ int main(void) {
             for (int z = 0; z < 3; z++) row(l, crews[c], sizes[z], LEAFDRUM_WIDTH_3);
     for (int l = FOUND; l <= MOVES; l++)
         for (int k = 0; k < 3; k++) row(l, 4, 4096, widths[k]);
+    for (int c = 1; c < 3; c++) row(VIEWS, crews[c], 4096, LEAFDRUM_WIDTH_3);
     return 0;
 }

@@ -12,6 +12,8 @@ enum kind { IDLE, LOOK, TAKE, PUT, READ, TAIL, TAKETAIL, APPEND, LEVEL, CLOSE, F
 /* the six kinds that exchange a word, one bit each */
 enum { EXCHANGES = 1 << PUT | 1 << APPEND | 1 << CLOSE | 1 << SETPUT | 1 << SETAPPEND | 1 << SETCLOSE };
 enum { W_KIND, W_PIXEL, W_LEVEL, W_NODE, W_COUNT, W_HNODE, W_HLEVEL, W_ANSWER, W_ANODE, W_MOVES };
+/* of a viewer: the kinds of its call and its last answers, one bit each */
+enum { VIEWS = 1 << LOOK | 1 << READ | 1 << TAIL | 1 << FOLLOW, TOLD = 1 << LEAFDRUM_NONE | 1 << LEAFDRUM_FOUND | 1 << LEAFDRUM_ABSENT };
 
 typedef leafdrum_settings S;
 typedef leafdrum_reply R;
@@ -23,7 +25,7 @@ static inline int dims(const S *s, D *d) {
     static const uint8_t last[] = {[2] = 11, [3] = 7, [4] = 5, [6] = 3};
     d->width = s->width;
     d->last = s->width < sizeof last ? last[s->width] : 0;
-    if (d->last == 0 || s->workers - 1 > 15 || s->limit - 1 > 7 || s->nodes - 1 > 4095) return 0;
+    if (d->last == 0 || s->workers - 1 > 15 || s->limit - 1 > 7 || s->nodes - 1 > 4095 || s->viewers > s->workers) return 0;
     d->words = 2 + (1u << d->width);
     d->levels = 1 + d->last * (s->nodes / s->limit) + s->workers;
     return 1;
@@ -52,10 +54,13 @@ static R reply(uint32_t number, uint32_t answer, uint32_t node, S s) {
     return r;
 }
 
-static inline int fits(const S *s, const D *d, const uint32_t *w) {
+/* the last workers are viewers */
+static inline int viewer(const S *s, uint32_t i) { return i >= s->workers - s->viewers; }
+
+static inline int fits(const S *s, const D *d, const uint32_t *w, int views) {
     uint32_t k = w[W_KIND];
-    if (k == IDLE) return w[W_ANSWER] <= 3;
-    if (k > MOVEEND || w[W_PIXEL] > MAXPIX) return 0;
+    if (k == IDLE) return views ? w[W_ANSWER] <= 5 && TOLD >> w[W_ANSWER] & 1 : w[W_ANSWER] <= 3;
+    if (k > MOVEEND || w[W_PIXEL] > MAXPIX || (views && !(VIEWS >> k & 1))) return 0;
     if (((k >= TAIL && k <= FOLLOW) || (k >= SETTAIL && k <= SETFOLLOW)) && w[W_COUNT] - 1 > s->limit) return 0;
     if (k <= FOLLOW) return w[W_MOVES] == 0;
     uint32_t m = w[W_MOVES];
@@ -79,15 +84,17 @@ R HAND(open)(S s, LEAFDRUM_AREAS) {
     return reply(0, 0, 0, s);
 }
 
-R HAND(start)(S s, uint32_t i, uint32_t row, uint32_t column, LEAFDRUM_AREAS) {
+/* a call that places or one that looks */
+static inline R begin(S s, int looks, uint32_t i, uint32_t row, uint32_t column, LEAFDRUM_AREAS) {
     D d;
     uint32_t q = counts(&s, &d, node_words, level_words, worker_words);
     (void)nodes, (void)levels;
     if (q) return reply(q, 0, 0, s);
     if (i >= s.workers) return reply(4, 0, 0, s);
     if (row > 4095 || column > 4095) return reply(5, 0, 0, s);
+    if (viewer(&s, i) != looks) return reply(17, 0, 0, s);
     uint32_t *w = workers + RECORD * i;
-    if (!fits(&s, &d, w)) return reply(6, 0, 0, s);
+    if (!fits(&s, &d, w, looks)) return reply(6, 0, 0, s);
     if (w[W_KIND] != IDLE) return reply(7, 0, 0, s);
     w[W_KIND] = LOOK;
     w[W_PIXEL] = row * 4096 + column;
@@ -96,6 +103,10 @@ R HAND(start)(S s, uint32_t i, uint32_t row, uint32_t column, LEAFDRUM_AREAS) {
     return reply(0, 4, 0, s);
 }
 
+#define PASSED nodes, node_words, levels, level_words, workers, worker_words
+R HAND(start)(S s, uint32_t i, uint32_t row, uint32_t column, LEAFDRUM_AREAS) { return begin(s, 0, i, row, column, PASSED); }
+R HAND(view)(S s, uint32_t i, uint32_t row, uint32_t column, LEAFDRUM_AREAS) { return begin(s, 1, i, row, column, PASSED); }
+
 R HAND(last)(S s, uint32_t i, LEAFDRUM_AREAS) {
     D d;
     uint32_t q = counts(&s, &d, node_words, level_words, worker_words);
@@ -103,7 +114,7 @@ R HAND(last)(S s, uint32_t i, LEAFDRUM_AREAS) {
     if (q) return reply(q, 0, 0, s);
     if (i >= s.workers) return reply(4, 0, 0, s);
     uint32_t *w = workers + RECORD * i;
-    if (!fits(&s, &d, w)) return reply(6, 0, 0, s);
+    if (!fits(&s, &d, w, viewer(&s, i))) return reply(6, 0, 0, s);
     if (w[W_KIND] != IDLE) return reply(0, 4, 0, s);
     return reply(0, w[W_ANSWER], w[W_ANSWER] == 1 || w[W_ANSWER] == 2 ? w[W_ANODE] : 0, s);
 }
@@ -143,7 +154,7 @@ static inline void set_last(uint32_t *w, const uint32_t *m) {
 }
 
 /* one turn of an open worker whose record fits: 0, 6 or 9; tells whether it had an exchange that failed */
-static uint32_t act(S *s, const D *d, uint32_t *w, uint32_t *nodes, uint32_t *levels, uint32_t *answer, uint32_t *node, uint32_t *failed) {
+static uint32_t act(S *s, const D *d, uint32_t *w, int views, uint32_t *nodes, uint32_t *levels, uint32_t *answer, uint32_t *node, uint32_t *failed) {
     uint32_t k = w[W_KIND], h = w[W_LEVEL], *at, *x, word, n, g, *m;
     *answer = 4;
     *node = 0;
@@ -153,7 +164,13 @@ static uint32_t act(S *s, const D *d, uint32_t *w, uint32_t *nodes, uint32_t *le
         NEED(h < s->levels_taken && (at = level(d, levels, h))[1] <= d->last);
         word = *entry(d, at, w[W_PIXEL]);
         NEED(taken(s, word));
-        w[W_KIND] = word == 2 * h ? TAKE : READ;
+        if (word != 2 * h) w[W_KIND] = READ;
+        else if (views) goto absent;
+        else w[W_KIND] = TAKE;
+        return 0;
+    absent: /* where another worker would go on to take a node or a level */
+        w[W_KIND] = IDLE, w[W_ANSWER] = 5, w[W_ANODE] = 0;
+        *answer = 5;
         return 0;
     case TAKE:
     case TAKETAIL:
@@ -216,6 +233,7 @@ static uint32_t act(S *s, const D *d, uint32_t *w, uint32_t *nodes, uint32_t *le
         word = nodes[2 * w[W_NODE] + 1];
         NEED(taken(s, word));
         if (word != 2 * h || w[W_COUNT] > s->limit) w[W_KIND] = k == TAIL ? FOLLOW : SETFOLLOW;
+        else if (views) goto absent;
         else if (w[W_COUNT] < s->limit) w[W_KIND] = k == TAIL ? TAKETAIL : SETAPPEND;
         else w[W_KIND] = k == TAIL ? LEVEL : SETLEVEL;
         return 0;
@@ -339,9 +357,10 @@ R HAND(turn)(S s, uint32_t i, LEAFDRUM_AREAS) {
     if (q) return reply(q, 0, 0, s);
     if (i >= s.workers) return reply(4, 0, 0, s);
     uint32_t *w = workers + RECORD * i;
-    if (!fits(&s, &d, w)) return reply(6, 0, 0, s);
+    int views = viewer(&s, i);
+    if (!fits(&s, &d, w, views)) return reply(6, 0, 0, s);
     if (w[W_KIND] == IDLE) return reply(8, 0, 0, s);
-    q = act(&s, &d, w, nodes, levels, &answer, &node, &failed);
+    q = act(&s, &d, w, views, nodes, levels, &answer, &node, &failed);
     return q == 6 ? reply(6, 0, 0, s) : reply(q, answer, node, s);
 }
 
@@ -353,7 +372,8 @@ R HAND(turns)(S s, const uint8_t *list, size_t count, uint32_t limit, LEAFDRUM_A
         if (list[k] >= s.workers) return reply(4, 0, 0, s);
     for (size_t k = 0; k < count && done < limit; k++) {
         uint32_t *w = workers + RECORD * list[k], kind = w[W_KIND];
-        q = fits(&s, &d, w) ? kind == IDLE ? 8 : act(&s, &d, w, nodes, levels, &answer, &node, &failed) : 6;
+        int views = viewer(&s, list[k]);
+        q = fits(&s, &d, w, views) ? kind == IDLE ? 8 : act(&s, &d, w, views, nodes, levels, &answer, &node, &failed) : 6;
         if (q == 6) break;
         if (q == 8) continue;
         done++;

@@ -15,6 +15,7 @@ typedef struct {
     uint32_t nodes;        /* 1 to 4096 */
     uint32_t nodes_taken;  /* set by leafdrum_open */
     uint32_t levels_taken; /* set by leafdrum_open */
+    uint32_t viewers;      /* how many of the last workers are viewers, 0 to workers */
     uint32_t width;        /* digit width in bits, one of the four below */
 } leafdrum_settings;
 
@@ -23,10 +24,10 @@ typedef struct {
 enum { LEAFDRUM_WIDTH_2 = 2, LEAFDRUM_WIDTH_3 = 3, LEAFDRUM_WIDTH_4 = 4, LEAFDRUM_WIDTH_6 = 6 };
 
 /* answers */
-enum { LEAFDRUM_NONE = 0, LEAFDRUM_NEW = 1, LEAFDRUM_FOUND = 2, LEAFDRUM_FULL = 3, LEAFDRUM_OPEN = 4 };
+enum { LEAFDRUM_NONE = 0, LEAFDRUM_NEW = 1, LEAFDRUM_FOUND = 2, LEAFDRUM_FULL = 3, LEAFDRUM_OPEN = 4, LEAFDRUM_ABSENT = 5 };
 
 typedef struct {
-    uint32_t number;           /* 0: carried out; else the number of the refusal, 1 to 9 */
+    uint32_t number;           /* 0: carried out; else the number of the refusal, 1 to 9 or 17 */
     uint32_t answer;           /* one of the answers above; 0 for a refusal other than "full", an opening and a list */
     uint32_t node;             /* the node of "new" and "found", else 0 */
     uint32_t turns;            /* turns done by leafdrum_turns, else 0 */
@@ -36,7 +37,7 @@ typedef struct {
 } leafdrum_reply;
 
 /* Three lent areas, each a pointer and its length in words. Words needed, as constants for an array's length where the arguments are constants; they hold
-   for settings in range, and the sums fit 32 bits. Longer areas are accepted, their excess is not touched. */
+   for settings in range, and the sums fit 32 bits. Viewers are workers here as others are. Longer areas are accepted, their excess is not touched. */
 #define LEAFDRUM_WORKER_WORDS 256 /* of one worker, at every width */
 #define LEAFDRUM_LEVEL_WORDS(width) (2 + (1 << (width))) /* of one level */
 #define LEAFDRUM_LEVEL_COUNT(workers, limit, nodes, width) (1 + (24 / (width) - 1) * ((nodes) / (limit)) + (workers)) /* as leafdrum_level_count */
@@ -45,12 +46,22 @@ typedef struct {
 #define LEAFDRUM_WORKER_AREA(workers) (LEAFDRUM_WORKER_WORDS * (workers))
 #define LEAFDRUM_AREAS uint32_t *nodes, size_t node_words, uint32_t *levels, size_t level_words, uint32_t *workers, size_t worker_words
 
+/* Refusals are named in the order in which they are asked; the first that applies is given. README.md, "Embedding", says what each means. */
+
+/* Begins anew, whatever the areas hold. Refusals 1, 2. */
 leafdrum_reply leafdrum_open(leafdrum_settings settings, LEAFDRUM_AREAS);
+/* A placing call starts; it ends "new", "found" or "full". Refusals 1, 2, 3, 4, 5, 17 (the worker is a viewer), 6, 7. */
 leafdrum_reply leafdrum_start(leafdrum_settings settings, uint32_t worker, uint32_t row, uint32_t column, LEAFDRUM_AREAS);
+/* A viewer's call starts, which looks the pixel up and places nothing; it ends "found" or "absent". Turns are given to it as to any call. Refusals 1, 2, 3, 4, 5,
+   17 (the worker is no viewer: it is below workers - viewers), 6, 7. */
+leafdrum_reply leafdrum_view(leafdrum_settings settings, uint32_t worker, uint32_t row, uint32_t column, LEAFDRUM_AREAS);
+/* One turn. Refusals 1, 2, 3, 4, 6, 8, 9; 9 ends the call "full", and never comes to a viewer. */
 leafdrum_reply leafdrum_turn(leafdrum_settings settings, uint32_t worker, LEAFDRUM_AREAS);
-/* A list reports the exchanges of its own turns, also where a 6 or the limit ends it. Of all turns since an opening, those of leafdrum_turn included,
-   exchanges that failed are at most (workers - 1) times those that were done. */
+/* A list of turns. Refusals 1, 2, 3, 4 of the whole list; a 6 ends it, and the turns before it stay. A list reports the exchanges of its own turns, also where a 6
+   or the limit ends it. Of all turns since an opening, those of leafdrum_turn included, exchanges that failed are at most (placing workers - 1) times those that
+   were done, where placing workers are workers - viewers; where these are 0, no exchange is made. */
 leafdrum_reply leafdrum_turns(leafdrum_settings settings, const uint8_t *list, size_t count, uint32_t limit, LEAFDRUM_AREAS);
+/* A worker's last answer: "none" before its first call has ended, "open" during a call. Refusals 1, 2, 3, 4, 6. */
 leafdrum_reply leafdrum_last(leafdrum_settings settings, uint32_t worker, LEAFDRUM_AREAS);
 
 /* The number of levels that the level area holds; 0 for settings out of range. */

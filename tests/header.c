@@ -9,6 +9,7 @@
 #define AREA_TYPES uint32_t *, size_t, uint32_t *, size_t, uint32_t *, size_t
 leafdrum_reply (*const opening)(leafdrum_settings, AREA_TYPES) = leafdrum_open;
 leafdrum_reply (*const starting)(leafdrum_settings, uint32_t, uint32_t, uint32_t, AREA_TYPES) = leafdrum_start;
+leafdrum_reply (*const viewing)(leafdrum_settings, uint32_t, uint32_t, uint32_t, AREA_TYPES) = leafdrum_view;
 leafdrum_reply (*const one_turn)(leafdrum_settings, uint32_t, AREA_TYPES) = leafdrum_turn;
 leafdrum_reply (*const list_of_turns)(leafdrum_settings, const uint8_t *, size_t, uint32_t, AREA_TYPES) = leafdrum_turns;
 leafdrum_reply (*const last_answer)(leafdrum_settings, uint32_t, AREA_TYPES) = leafdrum_last;
@@ -38,8 +39,9 @@ static void structs(void) {
     FIELD(leafdrum_settings, nodes, 8);
     FIELD(leafdrum_settings, nodes_taken, 12);
     FIELD(leafdrum_settings, levels_taken, 16);
-    FIELD(leafdrum_settings, width, 20);
-    same("size of leafdrum_settings", sizeof(leafdrum_settings), 24);
+    FIELD(leafdrum_settings, viewers, 20);
+    FIELD(leafdrum_settings, width, 24);
+    same("size of leafdrum_settings", sizeof(leafdrum_settings), 28);
     FIELD(leafdrum_reply, number, 0);
     FIELD(leafdrum_reply, answer, 4);
     FIELD(leafdrum_reply, node, 8);
@@ -47,11 +49,11 @@ static void structs(void) {
     FIELD(leafdrum_reply, exchanges_done, 16);
     FIELD(leafdrum_reply, exchanges_failed, 20);
     same("place of settings", offsetof(leafdrum_reply, settings), 24);
-    same("size of leafdrum_reply", sizeof(leafdrum_reply), 48);
+    same("size of leafdrum_reply", sizeof(leafdrum_reply), 52);
 }
 
 static leafdrum_settings wide(uint32_t crew, uint32_t limit, uint32_t count, uint32_t nodes_taken, uint32_t levels_taken, uint32_t width) {
-    leafdrum_settings s = {.workers = crew, .limit = limit, .nodes = count, .nodes_taken = nodes_taken, .levels_taken = levels_taken, .width = width};
+    leafdrum_settings s = {.workers = crew, .limit = limit, .nodes = count, .nodes_taken = nodes_taken, .levels_taken = levels_taken, .viewers = 0, .width = width};
     return s;
 }
 
@@ -59,15 +61,21 @@ static leafdrum_settings with(uint32_t crew, uint32_t limit, uint32_t count, uin
     return wide(crew, limit, count, nodes_taken, levels_taken, 3);
 }
 
+static leafdrum_settings with_viewers(uint32_t viewers, leafdrum_settings s) {
+    s.viewers = viewers;
+    return s;
+}
+
 /* Each field by what the library asks of it alone; with the bounds exchanged between two fields another number comes. */
 static void fields(void) {
-    leafdrum_reply r = leafdrum_last(with(3, 2, 11, 7, 9), 2, AREAS);
+    leafdrum_reply r = leafdrum_last(with_viewers(1, with(3, 2, 11, 7, 9)), 2, AREAS);
     same("number of a last answer", r.number, 0);
     same("workers given back", r.settings.workers, 3);
     same("limit given back", r.settings.limit, 2);
     same("nodes given back", r.settings.nodes, 11);
     same("nodes_taken given back", r.settings.nodes_taken, 7);
     same("levels_taken given back", r.settings.levels_taken, 9);
+    same("viewers given back", r.settings.viewers, 1);
     same("width given back", r.settings.width, 3);
     same("levels of 3 workers, limit 2, 11 nodes", leafdrum_level_count(with(3, 2, 11, 0, 0)), 39);
     same("levels of the largest table", leafdrum_level_count(with(16, 8, 4096, 0, 0)), 3601);
@@ -78,6 +86,10 @@ static void fields(void) {
     same("12 nodes taken of 11", leafdrum_last(with(3, 2, 11, 12, 39), 2, AREAS).number, 3);
     same("40 levels taken of 39", leafdrum_last(with(3, 2, 11, 11, 40), 2, AREAS).number, 3);
     same("no level taken", leafdrum_last(with(3, 2, 11, 0, 0), 2, AREAS).number, 3);
+    for (uint32_t viewers = 0; viewers < 40; viewers++) {
+        same("levels beside viewers", leafdrum_level_count(with_viewers(viewers, with(3, 2, 11, 0, 0))), viewers <= 3 ? 39 : 0);
+        same("number of viewers", leafdrum_open(with_viewers(viewers, with(3, 2, 11, 0, 0)), nodes, 0, levels, 0, workers, 0).number, viewers <= 3 ? 2 : 1);
+    }
     for (uint32_t width = 0; width < 40; width++) {
         int taken = width == 2 || width == 3 || width == 4 || width == 6;
         same("a width taken", leafdrum_level_count(wide(3, 2, 11, 0, 0, width)) != 0, (size_t)taken);
@@ -151,6 +163,7 @@ static void areas(leafdrum_settings s) {
         size_t n = NODE_WORDS - (k == 0), l = LEVEL_WORDS - (k == 1), w = WORKER_WORDS - (k == 2);
         same("open with a word less", leafdrum_open(s, nodes, n, levels, l, workers, w).number, 2);
         same("start with a word less", leafdrum_start(s, 0, 0, 0, nodes, n, levels, l, workers, w).number, 2);
+        same("view with a word less", leafdrum_view(s, 0, 0, 0, nodes, n, levels, l, workers, w).number, 2);
         same("turn with a word less", leafdrum_turn(s, 0, nodes, n, levels, l, workers, w).number, 2);
         same("turns with a word less", leafdrum_turns(s, list, 1, 1, nodes, n, levels, l, workers, w).number, 2);
         same("last with a word less", leafdrum_last(s, 0, nodes, n, levels, l, workers, w).number, 2);
@@ -195,6 +208,34 @@ static void arguments(void) {
     same("number of a list", r.number, 0);
     same("turns done with limit 4", r.turns, 2);
     same("nodes taken by a list", r.settings.nodes_taken, 1);
+}
+
+/* Worker 2 of 3 is a viewer: what its calls are refused by and what they answer. */
+static void viewers(void) {
+    leafdrum_settings s = leafdrum_open(with_viewers(1, with(3, 2, 11, 7, 9)), AREAS).settings;
+    same("view of worker 3 of 3", leafdrum_view(s, 3, 0, 0, AREAS).number, 4);
+    same("view in row 4096", leafdrum_view(s, 2, 4096, 0, AREAS).number, 5);
+    same("view in column 4096", leafdrum_view(s, 2, 0, 4096, AREAS).number, 5);
+    same("start of a viewer", leafdrum_start(s, 2, 0, 0, AREAS).number, 17);
+    same("view of another worker", leafdrum_view(s, 1, 0, 0, AREAS).number, 17);
+    leafdrum_reply r = leafdrum_view(s, 2, 2, 3, AREAS);
+    same("number of a view", r.number, 0);
+    same("answer of a view", r.answer, LEAFDRUM_OPEN);
+    same("pixel of worker 2", workers[2 * 256 + 1], 2 * 4096 + 3);
+    same("view of an open viewer", leafdrum_view(s, 2, 2, 3, AREAS).number, 7);
+    r = leafdrum_turn(s, 2, AREAS);
+    same("answer for a pixel that is not placed", r.answer, LEAFDRUM_ABSENT);
+    same("its number", r.number, 0);
+    same("its node", r.node, 0);
+    same("nodes taken after it", r.settings.nodes_taken, 0);
+    same("last answer after it", leafdrum_last(s, 2, AREAS).answer, LEAFDRUM_ABSENT);
+    same("last answer of it by number", leafdrum_last(s, 2, AREAS).answer, 5);
+    s = call(s, 0, 0).settings;
+    s = call(s, 2, 3).settings;
+    r = leafdrum_view(s, 2, 2, 3, AREAS);
+    for (int k = 0; k < 100 && r.answer == LEAFDRUM_OPEN; k++) r = leafdrum_turn(r.settings, 2, AREAS);
+    same("answer for a placed pixel", r.answer, LEAFDRUM_FOUND);
+    same("its node", r.node, 1);
 }
 
 /* Three workers race for a pixel, all before their Put: of a list one exchange is done, two fail; of everything else none is told. */
@@ -258,6 +299,7 @@ int main(void) {
     expressions();
     areas(with(3, 2, 11, 7, 9));
     arguments();
+    viewers();
     exchanges();
     answers();
     return failed;

@@ -17,16 +17,18 @@ LIMIT = "    uint32_t limit;        /* chain limit, 1 to 8 */\n"
 NODES = "    uint32_t nodes;        /* 1 to 4096 */\n"
 NODES_TAKEN = "    uint32_t nodes_taken;  /* set by leafdrum_open */\n"
 LEVELS_TAKEN = "    uint32_t levels_taken; /* set by leafdrum_open */\n"
+VIEWERS = "    uint32_t viewers;      /* how many of the last workers are viewers, 0 to workers */\n"
 WIDTH = "    uint32_t width;        /* digit width in bits, one of the four below */\n"
-NUMBER = "    uint32_t number;           /* 0: carried out; else the number of the refusal, 1 to 9 */\n"
+NUMBER = "    uint32_t number;           /* 0: carried out; else the number of the refusal, 1 to 9 or 17 */\n"
 ANSWER = "    uint32_t answer;           /* one of the answers above; 0 for a refusal other than \"full\", an opening and a list */\n"
 NODE = "    uint32_t node;             /* the node of \"new\" and \"found\", else 0 */\n"
 TURNS = "    uint32_t turns;            /* turns done by leafdrum_turns, else 0 */\n"
 DONE = "    uint32_t exchanges_done;   /* of these turns: exchanges that were done, else 0 */\n"
 FAILED = "    uint32_t exchanges_failed; /* of these turns: exchanges that failed, else 0 */\n"
 SETTINGS = "    leafdrum_settings settings;\n"
-START = "uint32_t worker, uint32_t row, uint32_t column, "
-CONSTANTS = "LEAFDRUM_NONE = 0, LEAFDRUM_NEW = 1, LEAFDRUM_FOUND = 2, LEAFDRUM_FULL = 3, LEAFDRUM_OPEN = 4"
+START = "leafdrum_start(leafdrum_settings settings, uint32_t worker, uint32_t row, uint32_t column, "
+VIEW = START.replace("start", "view")
+CONSTANTS = "LEAFDRUM_NONE = 0, LEAFDRUM_NEW = 1, LEAFDRUM_FOUND = 2, LEAFDRUM_FULL = 3, LEAFDRUM_OPEN = 4, LEAFDRUM_ABSENT = 5"
 LIST = "const uint8_t *list, size_t count, uint32_t limit, "
 WIDTHS = "LEAFDRUM_WIDTH_2 = 2, LEAFDRUM_WIDTH_3 = 3, LEAFDRUM_WIDTH_4 = 4, LEAFDRUM_WIDTH_6 = 6"
 RECORD = "LEAFDRUM_WORKER_WORDS 256"
@@ -42,10 +44,17 @@ WRONG = [
     ("settings: limit after nodes", LIMIT + NODES, NODES + LIMIT),
     ("settings: nodes after nodes_taken", NODES + NODES_TAKEN, NODES_TAKEN + NODES),
     ("settings: nodes_taken after levels_taken", NODES_TAKEN + LEVELS_TAKEN, LEVELS_TAKEN + NODES_TAKEN),
-    ("settings: levels_taken after width", LEVELS_TAKEN + WIDTH, WIDTH + LEVELS_TAKEN),
-    ("settings: width first", WORKERS + LIMIT + NODES + NODES_TAKEN + LEVELS_TAKEN + WIDTH, WIDTH + WORKERS + LIMIT + NODES + NODES_TAKEN + LEVELS_TAKEN),
-    ("settings: width before what an opening sets", NODES_TAKEN + LEVELS_TAKEN + WIDTH, WIDTH + NODES_TAKEN + LEVELS_TAKEN),
-    ("settings: limit and width exchanged", LIMIT + NODES + NODES_TAKEN + LEVELS_TAKEN + WIDTH, WIDTH + NODES + NODES_TAKEN + LEVELS_TAKEN + LIMIT),
+    ("settings: levels_taken after viewers", LEVELS_TAKEN + VIEWERS, VIEWERS + LEVELS_TAKEN),
+    ("settings: viewers after width", VIEWERS + WIDTH, WIDTH + VIEWERS),
+    ("settings: viewers behind the workers", WORKERS + LIMIT + NODES + NODES_TAKEN + LEVELS_TAKEN + VIEWERS, WORKERS + VIEWERS + LIMIT + NODES + NODES_TAKEN + LEVELS_TAKEN),
+    ("settings: viewers before what an opening sets", NODES_TAKEN + LEVELS_TAKEN + VIEWERS, VIEWERS + NODES_TAKEN + LEVELS_TAKEN),
+    ("settings: no viewers, as before document 02's request 06", VIEWERS, ""),
+    ("settings: viewers of 8 bits", VIEWERS, VIEWERS.replace("uint32_t", "uint8_t")),
+    ("settings: viewers of 64 bits", VIEWERS, VIEWERS.replace("uint32_t", "uint64_t")),
+    ("settings: viewers and width of 16 bits each", VIEWERS + WIDTH, (VIEWERS + WIDTH).replace("uint32_t", "uint16_t")),
+    ("settings: width first", WORKERS + LIMIT + NODES + NODES_TAKEN + LEVELS_TAKEN + VIEWERS + WIDTH, WIDTH + WORKERS + LIMIT + NODES + NODES_TAKEN + LEVELS_TAKEN + VIEWERS),
+    ("settings: width before what an opening sets", NODES_TAKEN + LEVELS_TAKEN + VIEWERS + WIDTH, WIDTH + NODES_TAKEN + LEVELS_TAKEN + VIEWERS),
+    ("settings: limit and width exchanged", LIMIT + NODES + NODES_TAKEN + LEVELS_TAKEN + VIEWERS + WIDTH, WIDTH + NODES + NODES_TAKEN + LEVELS_TAKEN + VIEWERS + LIMIT),
     ("settings: no width, as before document 02's request 08", WIDTH, ""),
     ("settings: width of 8 bits", WIDTH, WIDTH.replace("uint32_t", "uint8_t")),
     ("settings: width of 64 bits", WIDTH, WIDTH.replace("uint32_t", "uint64_t")),
@@ -70,6 +79,10 @@ WRONG = [
     ("constants: found and full exchanged", "FOUND = 2, LEAFDRUM_FULL = 3", "FOUND = 3, LEAFDRUM_FULL = 2"),
     ("constants: full and open exchanged", "FULL = 3, LEAFDRUM_OPEN = 4", "FULL = 4, LEAFDRUM_OPEN = 3"),
     ("constants: full is 9", "FULL = 3", "FULL = 9"),
+    ("constants: full and absent exchanged", CONSTANTS, CONSTANTS.replace("FULL = 3", "FULL = 5").replace("ABSENT = 5", "ABSENT = 3")),
+    ("constants: open and absent exchanged", "OPEN = 4, LEAFDRUM_ABSENT = 5", "OPEN = 5, LEAFDRUM_ABSENT = 4"),
+    ("constants: absent is 17", "ABSENT = 5", "ABSENT = 17"),
+    ("constants: no absent", ", LEAFDRUM_ABSENT = 5", ""),
     ("widths: 2 is 1", "WIDTH_2 = 2", "WIDTH_2 = 1"),
     ("widths: 3 and 4 exchanged", "WIDTH_3 = 3, LEAFDRUM_WIDTH_4 = 4", "WIDTH_3 = 4, LEAFDRUM_WIDTH_4 = 3"),
     ("widths: 4 is the entries of its levels", "WIDTH_4 = 4", "WIDTH_4 = 16"),
@@ -87,7 +100,7 @@ WRONG = [
     ("levels: the quotient of nodes and limit is not whole", COUNT, COUNT.replace("((nodes) / (limit))", "(nodes) / (limit)")),
     ("levels: the quotient of nodes and limit is rounded up", COUNT, COUNT.replace("((nodes) / (limit))", "(((nodes) + (limit) - 1) / (limit))")),
     ("levels: workers and limit exchanged", COUNT, COUNT.replace("workers, limit, nodes", "limit, workers, nodes")),
-    ("levels: asked of the library, no constant", COUNT, COUNT[:COUNT.index(" (1 +")] + " leafdrum_level_count((leafdrum_settings){workers, limit, nodes, 0, 0, width})"),
+    ("levels: asked of the library, no constant", COUNT, COUNT[:COUNT.index(" (1 +")] + " leafdrum_level_count((leafdrum_settings){workers, limit, nodes, 0, 0, 0, width})"),
     ("areas: a word a node", OF_NODES, OF_NODES.replace("2 * ", "")),
     ("areas: four words a node", OF_NODES, OF_NODES.replace("2 *", "4 *")),
     ("areas: ten words a level", OF_LEVELS, OF_LEVELS.replace("LEAFDRUM_LEVEL_WORDS(width)", "10")),
@@ -111,6 +124,11 @@ WRONG = [
     ("areas: levels of 64 bits", "uint32_t *levels", "uint64_t *levels"),
     ("start: no column", START, START.replace("uint32_t column, ", "")),
     ("start: row and column of 16 bits", START, START.replace("uint32_t row, uint32_t column", "uint16_t row, uint16_t column")),
+    ("view: no column", VIEW, VIEW.replace("uint32_t column, ", "")),
+    ("view: row and column of 16 bits", VIEW, VIEW.replace("uint32_t row, uint32_t column", "uint16_t row, uint16_t column")),
+    ("view: worker of 8 bits", VIEW, VIEW.replace("uint32_t worker", "uint8_t worker")),
+    ("view: gives the answer alone", "leafdrum_reply leafdrum_view", "uint32_t leafdrum_view"),
+    ("view: not declared", "leafdrum_reply leafdrum_view", "leafdrum_reply leafdrum_look"),
     ("turn: worker of 8 bits", "leafdrum_turn(leafdrum_settings settings, uint32_t worker", "leafdrum_turn(leafdrum_settings settings, uint8_t worker"),
     ("turn: settings lent", "leafdrum_turn(leafdrum_settings settings", "leafdrum_turn(leafdrum_settings *settings"),
     ("turns: limit before count", LIST, "const uint8_t *list, uint32_t limit, size_t count, "),
@@ -124,10 +142,12 @@ WRONG = [
     ("guard: another name is defined", "#define LEAFDRUM_H\n", "#define LEAFDRUM\n"),
     ("areas: nodes after levels", "uint32_t *nodes, size_t node_words, uint32_t *levels, size_t level_words", "uint32_t *levels, size_t level_words, uint32_t *nodes, size_t node_words"),
     ("areas: levels after workers", "uint32_t *levels, size_t level_words, uint32_t *workers, size_t worker_words", "uint32_t *workers, size_t worker_words, uint32_t *levels, size_t level_words"),
-    ("start: row after column", START, "uint32_t worker, uint32_t column, uint32_t row, "),
-    ("start: worker after row", START, "uint32_t row, uint32_t worker, uint32_t column, "),
+    ("start: row after column", START, START.replace("row, uint32_t column", "column, uint32_t row")),
+    ("start: worker after row", START, START.replace("worker, uint32_t row", "row, uint32_t worker")),
+    ("view: row after column", VIEW, VIEW.replace("row, uint32_t column", "column, uint32_t row")),
+    ("view: worker after row", VIEW, VIEW.replace("worker, uint32_t row", "row, uint32_t worker")),
 ]
-NAMES = {"areas: nodes after levels", "areas: levels after workers", "start: row after column", "start: worker after row"}
+NAMES = {"areas: nodes after levels", "areas: levels after workers", "start: row after column", "start: worker after row", "view: row after column", "view: worker after row"}
 
 
 def read(path):

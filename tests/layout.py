@@ -155,9 +155,9 @@ class Layout:
 class Watched(Table):
     """A table and its moments: what its areas held, and the facts that should be read from them. `turned` are the words of a record that turns have changed."""
 
-    def __init__(self, layout, *sizes):
+    def __init__(self, layout, *sizes, viewers=0):
         self.moments, self.turned, self.worker_words = [], set(), layout.worker_words
-        super().__init__(*sizes, layout.width)
+        super().__init__(*sizes, layout.width, viewers=viewers)
         self.entries = range(2 ** layout.width)
         for i in range(self.settings.workers):
             for k in range(max(layout.head.values()) + 1, self.worker_words):
@@ -188,7 +188,8 @@ class Watched(Table):
                   *[("move", i, "nodes", j, k, n) for k, n in enumerate(nodes)])
 
     def begin(self, i, pixel):
-        if self.ask("start", i, pixel >> 12, pixel & 4095):
+        views = i >= self.settings.workers - self.settings.viewers
+        if self.ask("view" if views else "start", i, pixel >> 12, pixel & 4095):
             sys.exit("layout: a start is refused by %d" % self.reply.number)
         self.shows(i, kind="Look", pixel=pixel, level=0, Moves=0)
 
@@ -237,6 +238,18 @@ def chains(layout):
     t.call(1, t.pixel(3), "Look Take Put", "new", 4)
     t.shows(1, held_node=None)
     t.call(1, t.pixel(0), "Look Take", "full", 0)
+    return t
+
+
+def looked_up(layout):
+    """A viewer's calls: in the chain it is absent below the limit, and at the limit."""
+    t = Watched(layout, 2, 2, 5, viewers=1)
+    t.call(1, t.pixel(1), "Look", "absent", 0)
+    for k in range(2):
+        t.call(0, t.pixel(1, k), "Look Take Put" if k == 0 else "Look Read Tail TakeTail Append", "new", k)
+        t.call(1, t.pixel(1, 2), "Look Read Tail" + " Follow Tail" * k, "absent", 0)
+        t.call(1, t.pixel(1, k), "Look Read" + " Tail Follow" * k, "found", k)
+    t.call(1, t.pixel(2), "Look", "absent", 0)
     return t
 
 
@@ -339,9 +352,10 @@ class Measured:
         self.zeroed = sum(word == 0 for word in Table(3, 2, 5, self.width).areas[2]) // 3
         self.started = self.written_by_a_start()
         self.turned = sorted(set().union(*[t.turned for t in tables]) - set(range(layout.at("Workers", "Move j: home"), self.worker_words)))
-        self.answers = [n for n in range(99) if self.takes(0, answer=n)]
+        self.answers, self.viewers_answers = ([n for n in range(99) if self.takes(0, answer=n, viewers=v)] for v in (0, 1))
         kinds = [k for k in range(1, 99) if any(self.takes(k, moves=m) for m in ([], [0], [1]))]
         moves = {k: next(m for m in ([], [0], [1]) if self.takes(k, moves=m)) for k in kinds}
+        self.viewers_kinds = [k for k in kinds if self.takes(k, moves=moves[k], viewers=1)]
         self.last_kind = max(kinds)
         self.pixel = self.most(lambda n: self.takes(1, pixel=n))
         self.counted = [k for k in kinds if not self.takes(k, count=0, moves=moves[k])]
@@ -372,9 +386,9 @@ class Measured:
         found = [n for n in range(16) if holds(n)]
         return (found[0], found[-1]) if found == list(range(found[0], found[-1] + 1)) else None
 
-    def takes(self, kind, answer=0, pixel=0, count=1, moves=(), limit=3):
-        """Whether a record fits its layout: its last answer is read. `moves` has how many nodes each Move remembers."""
-        t, lay = Table(2, limit, 5, self.width), self.layout
+    def takes(self, kind, answer=0, pixel=0, count=1, moves=(), limit=3, viewers=0):
+        """Whether the record of the last worker fits its layout: its last answer is read. `moves` has how many nodes each Move remembers."""
+        t, lay = Table(2, limit, 5, self.width, viewers=viewers), self.layout
         for name, word in (("kind", kind), ("answer", answer), ("pixel", pixel), ("count", count), ("Moves", len(moves))):
             t.areas[2][lay.worker_words + lay.head[name]] = word
         for j, n in enumerate(moves):
@@ -414,6 +428,7 @@ class Measured:
 
     def sentences(self):
         """Sentences of the page with the numbers that they should have."""
+        kinds = {name: k for name, k in self.layout.kinds.items() if k in self.viewers_kinds}
         # the formulas' numbers are those by which what was measured comes out
         by_width = (2 + 2 ** self.width, 24 // self.width - 1, 24 // self.width - 1) == (self.level_words, self.last_depth, self.moves[1])
         return [
@@ -430,7 +445,7 @@ class Measured:
             (r"An opening zeroes all (N);", [self.zeroed]),
             (r"\| (N) idle, (N) to (N) the kind of the next turn", [0, 1, self.last_kind]),
             (r"R's place in its chain, from (N); past the limit it stays at limit \+ (N) \|", [self.count[0], self.count[1] - 3]),
-            (r"\| of \"new\" and \"found\"; (N) with \"full\" \|", [0]),
+            (r"\| of \"new\" and \"found\"; (N) with \"full\" and \"absent\" \|", [0]),
             (r"how many Moves are open, one inside another: (N) to D \|", [0]),
             (r"Move (N) is the outermost \|", [0]),
             (r"how many nodes are remembered, (N) to (N) \|", [0, self.most_nodes]),
@@ -439,7 +454,8 @@ class Measured:
             (r"A start changes words (N), (N), (N) and (N): kind Look, the pixel, level (N), no Move\.", self.started + [0]),
             (r"A turn changes words (N) and (N) to (N) as its kind says", bounds(self.turned)),
             (r"a new Move is written with count (N) and eight zeros", [0]),
-            (r"- Idle: answer (N) to (N)\.", [self.answers[0], self.answers[-1]]),
+            (r"- Idle: answer (N) to (N); of a viewer" + either(self.viewers_answers) + r"\.", bounds(self.answers) + self.viewers_answers),
+            (r"- A viewer's open call: kind%s \(%s\)\." % (either(self.viewers_kinds), ", ".join(sorted(kinds, key=kinds.get))), self.viewers_kinds),
             (r"- Open: pixel ≤ (N)\. At a node of a chain \(kinds (N) to (N) and (N) to (N)\): count (N) to limit \+ (N)\.",
              [self.pixel] + bounds(self.counted) + [self.count[0], self.count[1] - 3]),
             (r"- Searching: no Move\. Moving: (N) to D Moves; each but the innermost remembers (N) to limit nodes; the innermost remembers (N) to limit nodes "
@@ -451,6 +467,11 @@ class Measured:
 def bounds(numbers):
     """The first and the last number of each unbroken row."""
     return [n for n in numbers if n - 1 not in numbers or n + 1 not in numbers]
+
+
+def either(numbers):
+    """The pattern of so many numbers, the last behind "or"."""
+    return ",".join([" (N)"] * (len(numbers) - 1)) + " or (N)"
 
 
 def misplaced(lay, tables):
@@ -517,10 +538,12 @@ def wrong_pages(text):
             yield "%d for %r" % (new, text[m.start():m.start() + 20]), text[:m.start()] + format(new, "," if "," in m.group() else "d") + text[m.end():]
     for m in re.finditer(r"\b(inn|out)(?=ermost\b)", text):
         yield "another end for %r" % text[m.start():m.start() + 20], text[:m.start()] + {"inn": "out", "out": "inn"}[m.group()] + text[m.end():]
-    # neighbours: kinds and answers behind their numbers, words of the picture
-    name = r"([A-Z]\w+|none|new|found|full)"
+    # neighbours: kinds and answers behind their numbers, kinds without them, words of the picture
+    name = r"([A-Z]\w+|none|new|found|full|absent)"
     picture = re.search(r"```.*?```", text, re.S)
-    for pattern, until in ((r"(?<=\d )%s((?:,| \(\w+\);)\s\d+ )%s\b" % (name, name), len(text)), (r"\b([A-Za-z]\w*)([^A-Za-z]+)([A-Za-z]\w*)", picture.end())):
+    patterns = [(r"(?<=\d )%s((?:,| \(\w+\);)\s\d+ )%s\b" % (name, name), len(text)), (r"\b([A-Z][a-z]\w+)(, )([A-Z][a-z]\w+)\b", len(text)),
+                (r"\b([A-Za-z]\w*)([^A-Za-z]+)([A-Za-z]\w*)", picture.end())]
+    for pattern, until in patterns:
         at = 0
         while m := re.compile(pattern).search(text, at, until):
             at = m.end(1)
@@ -542,7 +565,7 @@ def main():
     try:
         for width in WIDTHS:
             layout = Layout(page, width)
-            tables = [calls(layout) for calls in (chains, one_node_moves, three_nodes_move, eight_nodes_move, move_inside_a_move, all_moves)]
+            tables = [calls(layout) for calls in (chains, looked_up, one_node_moves, three_nodes_move, eight_nodes_move, move_inside_a_move, all_moves)]
             bad = list(misplaced(layout, tables))
             if bad:
                 break

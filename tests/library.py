@@ -5,12 +5,12 @@ import os
 import subprocess
 
 ROOT = os.path.dirname(os.path.dirname(os.path.abspath(__file__)))
-ANSWERS = ["none", "new", "found", "full", "open"]
+ANSWERS = ["none", "new", "found", "full", "open", "absent"]
 Word = ctypes.c_uint32
 
 
 class Settings(ctypes.Structure):
-    _fields_ = [(name, Word) for name in ("workers", "limit", "nodes", "nodes_taken", "levels_taken", "width")]
+    _fields_ = [(name, Word) for name in ("workers", "limit", "nodes", "nodes_taken", "levels_taken", "viewers", "width")]
 
 
 class Reply(ctypes.Structure):
@@ -27,7 +27,7 @@ def loaded():
     os.makedirs(os.path.dirname(path), exist_ok=True)
     subprocess.run(["gcc", "-shared", "-o", path, "-Wl,--whole-archive", os.path.join(ROOT, "target/staticlib/libexport.a"), "-Wl,--no-whole-archive"], check=True)
     lib = ctypes.CDLL(path)
-    for name in ("open", "start", "turn", "last"):
+    for name in ("open", "start", "view", "turn", "last"):
         getattr(lib, "leafdrum_" + name).restype = Reply
     lib.leafdrum_level_count.restype = Word
     return lib
@@ -36,16 +36,16 @@ def loaded():
 LIB = loaded()
 
 
-def level_count(workers, limit, nodes, width=3):
-    return LIB.leafdrum_level_count(Settings(workers, limit, nodes, 0, 0, width))
+def level_count(workers, limit, nodes, width=3, viewers=0):
+    return LIB.leafdrum_level_count(Settings(workers, limit, nodes, 0, 0, viewers, width))
 
 
 class Table:
     """A table over nodes, levels and workers of such lengths, at least as long as it needs where none are given; every word is 77 before the opening, whose
     number `opened` keeps."""
 
-    def __init__(self, workers, limit, nodes, width=3, lengths=None):
-        self.settings = Settings(workers, limit, nodes, 0, 0, width)
+    def __init__(self, workers, limit, nodes, width=3, lengths=None, viewers=0):
+        self.settings = Settings(workers, limit, nodes, 0, 0, viewers, width)
         lengths = lengths or (64 + 2 * nodes, (2 + 2 ** width) * level_count(workers, limit, nodes, width) + 64, 256 * workers + 64)
         self.areas = [(Word * n)(*[77] * n) for n in lengths]
         self.opened = self.ask("open")

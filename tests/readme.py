@@ -1,5 +1,5 @@
 #!/usr/bin/env python3
-"""What README.md, docs/ and the header's comments say: links, names before links, the race, the memory to lend at each width, counts; and that each file of tests/
+"""What README.md, docs/ and the header's comments say: links, names before links, the race, the viewer's text, the memory to lend at each width, counts; and that each file of tests/
 is run.
 Relies on tests/library.py, the program, crates.txt, crates/*/must-fail and tests/run.sh."""
 import glob
@@ -37,10 +37,18 @@ if names < 10:
     bad.append("only %d names stand before links: they are written in another way than this test reads" % names)
 
 readme, header = read("README.md"), read("include/leafdrum.h")
+
+
+def prints(text):
+    return subprocess.run([os.path.join(ROOT, "leafdrum")], input=text.encode(), stdout=subprocess.PIPE, check=True).stdout.decode()
+
+
 race = re.search(r"\$ \./leafdrum < (examples/race\.txt)\n(.*?)```", readme, re.S)
-printed = race and subprocess.run([os.path.join(ROOT, "leafdrum")], input=read(race.group(1)).encode(), stdout=subprocess.PIPE, check=True).stdout.decode()
-if not race or printed != race.group(2):
+if not race or prints(read(race.group(1))) != race.group(2):
     bad.append("README.md does not show the race that the program prints")
+viewer = re.search(r"\n(`s,.*`) \(one a line\) prints\n\n```\n(.*?)```", readme, re.S)
+if not viewer or prints("".join(line + "\n" for line in re.findall(r"`([^`]+)`", viewer.group(1)))) != viewer.group(2):
+    bad.append("README.md does not show what the program prints for the viewer's text")
 
 
 def worth(formula, **values):
@@ -90,6 +98,9 @@ for field, low, high in ranges:
     tried = (int(low) - 1, int(low), int(high), int(high) + 1)
     if [n for n in tried if level_count(**{"workers": 1, "limit": 1, "nodes": 1, field: n})] != [*tried[1:3]]:
         bad.append("include/leafdrum.h: %s is not in range from %s to %s" % (field, low, high))
+viewers = [n for n in range(9) if level_count(5, 1, 1, viewers=n)]
+if "/* how many of the last workers are viewers, 0 to workers */" not in header or viewers != list(range(6)):
+    bad.append("include/leafdrum.h does not say how many of 5 workers may be viewers, which are %s" % viewers)
 if len(ranges) != 3:
     bad.append("include/leafdrum.h tells %d ranges, not those of workers, limit and nodes" % len(ranges))
 functions = len(re.findall(r"^\w+ leafdrum_\w+\(", header, re.M))
@@ -134,5 +145,5 @@ for line in bad:
     print(line)
 if bad:
     sys.exit(1)
-print("README and docs: %d links, %d names, the race, the memory to lend, %d crates and %d edits hold; %d files of tests/ are run"
+print("README and docs: %d links, %d names, the race, the viewer's text, the memory to lend, %d crates and %d edits hold; %d files of tests/ are run"
       % (links, names, crates, edits, len(reached)))

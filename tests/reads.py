@@ -1,5 +1,5 @@
 #!/usr/bin/env python3
-"""Document 01: "A turn makes one shared access and the private work around it." In the text of the 22 turns no way makes a second one: the word that is asked is
+"""Document 01: "A turn makes one shared access and the private work around it." In the text of the 22 turns, and of a viewer's two functions, no way makes a second one: the word that is asked is
 the one that is acted on, and what a failed exchange met is the word that it gave. Of branches the dearest counts; a loop or recursion with an access counts as many.
 Relies on `nodes` and `levels` as the names of the areas and on a function's braces in lines of their own. Texts with a second access must be noticed."""
 import pathlib
@@ -13,12 +13,15 @@ ACCESSES, PRIVATE = "exchange cell_at next_at set_cell set_next fill_node fill_l
 TURNS = [("worker", "." + name) for name in "look take put read tail take_tail append level close follow".split()] + [
     ("mover", "." + name) for name in ("chain_head chain_next set_next_word set_look set_put set_read set_tail set_append set_level set_close set_follow "
                                        "move_end").split()]
+# a viewer's Look and Read, and its Tail and Follow
+VIEWS = [("worker", ".view_entry"), ("worker", ".view_next")]
 MANY = 100
 # a crate, a text of it, what takes its place, and the turns that make more than one access then
 WRONG = [
     ("worker", " put_met(s, h, word, nodes, levels)\n", " let again = cell_at(x, nodes, levels);\n put_met(s, h, again, nodes, levels)\n", ["put"]),
     ("mover", " let g = level_ref(h.held_level - 1);\n", " let g = level_ref(h.held_level - 1);\n let before = next_at(nodes, h.node);\n", ["set_close"]),
-    ("worker", " and(compares_ref(s, word, nodes), w.meets)", " and(compares_ref(s, next_at(nodes, h.node), nodes), w.meets)", ["append", "close", "follow"]),
+    ("worker", " and(compares_ref(s, word, nodes), w.meets)", " and(compares_ref(s, next_at(nodes, h.node), nodes), w.meets)", ["append", "close", "follow", "view_next"]),
+    ("worker", " view_met(before, s, h, word, Kind::Take, Kind::Read)\n", " view_met(before, s, h, next_at(nodes, h.node), Kind::Take, Kind::Read)\n", ["view_entry"]),
 ]
 
 
@@ -78,7 +81,7 @@ class Source:
         return (asked + done) * (MANY if words[at - 1] == "while" else 1), end
 
     def not_one(self):
-        return {name[1:]: self.called((crate, name)) for crate, name in TURNS if self.called((crate, name)) != 1}
+        return {name[1:]: self.called((crate, name)) for crate, name in TURNS + VIEWS if self.called((crate, name)) != 1}
 
 
 texts = {crate: (ROOT / "crates" / crate / "src/lib.rt").read_text(encoding="utf-8") for crate in ("worker", "mover", "steps", "areas")}
@@ -88,4 +91,4 @@ for crate, old, new, turns in [] if bad else WRONG:
         bad.append("not noticed in %s by the text of %s: %s" % (" and ".join(turns), crate, new))
 if bad:
     sys.exit("\n".join("reads: " + line for line in bad))
-print("reads: %d turns, one access each; %d wrong texts noticed" % (len(TURNS), len(WRONG)))
+print("reads: %d turns and %d functions of viewers, one access each; %d wrong texts noticed" % (len(TURNS), len(VIEWS), len(WRONG)))

@@ -1,5 +1,5 @@
-/* Demand 3 and the bound of failed exchanges on random orders of starts, turns and lists of turns at every digit width, judged without a model:
-   row [SEED [TABLES]]
+/* Demand 3 and the bound of failed exchanges on random orders of starts, turns and lists of turns at every digit width, beside viewers in half of the tables,
+   judged without a model: row [SEED [TABLES]]
    Relies on include/leafdrum.h and the library; with -DTABLE=by_hand on bench/by_hand.c in its place. Table k has seed SEED + k: row SEED 1 runs one again. */
 #include "../include/leafdrum.h"
 #include <stdio.h>
@@ -17,6 +17,7 @@ typedef leafdrum_settings S;
 typedef leafdrum_reply R;
 R OF_TABLE(open)(S, LEAFDRUM_AREAS);
 R OF_TABLE(start)(S, uint32_t, uint32_t, uint32_t, LEAFDRUM_AREAS);
+R OF_TABLE(view)(S, uint32_t, uint32_t, uint32_t, LEAFDRUM_AREAS);
 R OF_TABLE(turn)(S, uint32_t, LEAFDRUM_AREAS);
 R OF_TABLE(turns)(S, const uint8_t *, size_t, uint32_t, LEAFDRUM_AREAS);
 R OF_TABLE(last)(S, uint32_t, LEAFDRUM_AREAS);
@@ -31,10 +32,10 @@ static int wide; /* the place of the table's width */
 static size_t level_words; /* of all levels */
 #define AREAS nodes, 2 * s.nodes, levels, level_words, workers, RECORD * s.workers
 
-/* What is asked. Where all of it holds there is document 01's row: each "new" and "found" put where it ends, each "full" where it starts. */
+/* What is asked. Where all of it holds there is document 01's row: each "new", "found" and "absent" put where it ends, each "full" where it starts. */
 enum check {
-    REFUSED, SIX, REFUSAL, NEW_PIXEL, NEW_NODE, FOUND_FIRST, FOUND_NODE, FULL_EARLY, FULL_PLACED, LOST, NOT_PLACED, PIXEL_WORD, UNTAKEN, TAKEN, SPARE, LEVELS_HELD,
-    LAST, DONE, COUNTED, BOUND, ALONE, ENDLESS, SIZES, CHECKS
+    REFUSED, SIX, REFUSAL, NEW_PIXEL, NEW_NODE, FOUND_FIRST, FOUND_NODE, FULL_EARLY, FULL_PLACED, ABSENT_PLACED, SORT, LOOKED, LOST, NOT_PLACED, PIXEL_WORD, UNTAKEN,
+    TAKEN, SPARE, LEVELS_HELD, LAST, DONE, COUNTED, BOUND, ALONE, ENDLESS, SIZES, CHECKS
 };
 static const char *const names[CHECKS] = {
     [REFUSED] = "refused without a reason",
@@ -46,13 +47,16 @@ static const char *const names[CHECKS] = {
     [FOUND_NODE] = "found with another node",
     [FULL_EARLY] = "full with a node left",
     [FULL_PLACED] = "full for a placed pixel",
+    [ABSENT_PLACED] = "absent for a placed pixel",
+    [SORT] = "ended as its worker may not",
+    [LOOKED] = "a viewer changed the table",
     [LOST] = "placed node not reached",
     [NOT_PLACED] = "reached node not placed",
     [PIXEL_WORD] = "reached node with another pixel",
     [UNTAKEN] = "reached reference to nothing taken",
     [TAKEN] = "nodes or levels taken not as turns take them",
     [SPARE] = "spare node not used",
-    [LEVELS_HELD] = "more levels held than workers",
+    [LEVELS_HELD] = "more levels held than placing workers",
     [LAST] = "last answer not as the call ended",
     [DONE] = "turns done not counted",
     [COUNTED] = "exchanges of a list not counted",
@@ -85,11 +89,15 @@ static struct { uint32_t pixel, node, placed; } book[PIXELS];
 static uint32_t pixels, nodes_placed;
 static uint32_t holds[NODES]; /* the place of the node's pixel + 1; 0: not placed */
 static struct { uint32_t open, place, started, answer, node; } calls[WORKERS];
-static unsigned long turns_done, lists_done, compared, ended[4];
+static unsigned long turns_done, lists_done, compared, ended[LEAFDRUM_ABSENT + 1];
 static uint32_t deepest[WIDTHS]; /* the most Moves that were open one inside another */
+
+static uint32_t placing(void) { return s.workers - s.viewers; }
+static int views(uint32_t i) { return i >= placing(); }
 
 static void ends(uint32_t i, uint32_t answer, uint32_t node) {
     uint32_t k = calls[i].place;
+    must(answer == LEAFDRUM_FOUND || (answer == LEAFDRUM_ABSENT) == views(i), SORT);
     calls[i].open = 0, calls[i].answer = answer, calls[i].node = node;
     ended[answer]++;
     if (answer == LEAFDRUM_NEW) {
@@ -100,19 +108,22 @@ static void ends(uint32_t i, uint32_t answer, uint32_t node) {
     } else if (answer == LEAFDRUM_FOUND) {
         must(book[k].placed != 0, FOUND_FIRST);
         must(book[k].node == node, FOUND_NODE);
+    } else if (answer == LEAFDRUM_ABSENT) {
+        must(!book[k].placed, ABSENT_PLACED);
     } else {
         must(s.nodes_taken == s.nodes, FULL_EARLY);
         must(!book[k].placed || book[k].placed > calls[i].started, FULL_PLACED);
     }
 }
 
-/* What nothing refuses is carried out, "full" under its own number; a turn takes one node or level at most, a start none. */
+/* What nothing refuses is carried out, "full" under its own number; a turn takes one node or level at most, a start or a viewer's turn none. */
 static void carried_out(R r, uint32_t turns) {
     S t = r.settings;
     must(r.number != 6, SIX);
     must(r.number == (r.answer == LEAFDRUM_FULL ? 9 : 0), REFUSED);
     must(r.exchanges_done + r.exchanges_failed <= r.turns, COUNTED); /* none but of a list */
-    must(t.workers == s.workers && t.limit == s.limit && t.nodes == s.nodes && t.width == s.width && t.nodes_taken <= t.nodes, TAKEN);
+    must(t.workers == s.workers && t.limit == s.limit && t.nodes == s.nodes && t.viewers == s.viewers && t.width == s.width, TAKEN);
+    must(t.nodes_taken <= t.nodes, TAKEN);
     must(t.nodes_taken >= s.nodes_taken && t.levels_taken >= s.levels_taken, TAKEN);
     must(t.nodes_taken - s.nodes_taken + t.levels_taken - s.levels_taken <= turns, TAKEN);
     s = t;
@@ -172,16 +183,49 @@ static void count_next(uint32_t i, exchanges *e) {
     }
 }
 
-/* "Failed exchanges are at most (placing workers - 1) x successful ones", and a doomed worker's will be one of them. */
+/* "Failed exchanges are at most (placing workers - 1) x successful ones; with no placing worker both are zero", and a doomed worker's will be one of them. */
 static void bound(void) {
-    unsigned long failing = in_table.failed, most = (s.workers - 1) * in_table.done;
+    unsigned long failing = in_table.failed, most = placing() ? (placing() - 1) * in_table.done : 0;
+    must(placing() || !in_table.done, BOUND);
     for (uint32_t i = 0; i < s.workers; i++) failing += (unsigned long)doomed(i);
     must(failing <= most, BOUND);
     bound_reached += most && in_table.failed == most;
 }
 
+/* The areas put aside, of the levels those that so many turns can change: no turn takes more than one. */
+static uint32_t kept_nodes[2 * NODES], kept_levels[LEVEL_WORDS], kept_workers[RECORD * WORKERS];
+static size_t kept_level_words;
+static void keep(uint32_t turns) {
+    kept_level_words = (2 + entries()) * (size_t)(s.levels_taken + turns);
+    if (kept_level_words > level_words) kept_level_words = level_words;
+    memcpy(kept_nodes, nodes, 2 * s.nodes * sizeof *nodes);
+    memcpy(kept_levels, levels, kept_level_words * sizeof *levels);
+    memcpy(kept_workers, workers, RECORD * s.workers * sizeof *workers);
+}
+
+/* "Striking all viewers' starts and turns from a sequence leaves every other worker's answers, all nodes and all levels the same": they write their own record
+   alone. Words are compared in small tables. */
+static int small(void) { return s.nodes <= 64; }
+static void only_looked(uint32_t i) {
+    size_t own = RECORD * i, rest = RECORD * (s.workers - i - 1);
+    if (!small()) return;
+    must(!memcmp(kept_nodes, nodes, 2 * s.nodes * sizeof *nodes) && !memcmp(kept_levels, levels, kept_level_words * sizeof *levels), LOOKED);
+    must(!memcmp(kept_workers, workers, own * sizeof *workers), LOOKED);
+    must(!memcmp(kept_workers + own + RECORD, workers + own + RECORD, rest * sizeof *workers), LOOKED);
+}
+
+/* A call of the sort that the worker has, and of the sort that is refused by 17. */
+static R call(uint32_t i, uint32_t row, uint32_t column) {
+    return views(i) ? OF_TABLE(view)(s, i, row, column, AREAS) : OF_TABLE(start)(s, i, row, column, AREAS);
+}
+static R other_call(uint32_t i, uint32_t row, uint32_t column) {
+    return views(i) ? OF_TABLE(start)(s, i, row, column, AREAS) : OF_TABLE(view)(s, i, row, column, AREAS);
+}
+
 static void start(uint32_t i, uint32_t k) {
-    R r = OF_TABLE(start)(s, i, book[k].pixel >> 12, book[k].pixel & 4095, AREAS);
+    if (views(i) && small()) keep(0);
+    R r = call(i, book[k].pixel >> 12, book[k].pixel & 4095);
+    if (views(i)) only_looked(i);
     must(r.answer == LEAFDRUM_OPEN, REFUSED);
     carried_out(r, 0);
     calls[i].open = 1, calls[i].place = k, calls[i].started = operation;
@@ -192,27 +236,23 @@ static uint32_t moving(uint32_t i) { return workers[RECORD * i + W_MOVES]; }
 
 static void turn(uint32_t i) {
     count_next(i, &in_table);
+    if (views(i) && small()) keep(0);
     R r = OF_TABLE(turn)(s, i, AREAS);
-    carried_out(r, 1);
+    if (views(i)) only_looked(i);
+    carried_out(r, !views(i));
     turns_done++;
     if (moving(i) > deepest[wide]) deepest[wide] = moving(i);
     if (r.answer == LEAFDRUM_OPEN) return;
-    must(r.answer >= LEAFDRUM_NEW && r.answer <= LEAFDRUM_FULL, REFUSED);
+    must(r.answer >= LEAFDRUM_NEW && r.answer <= LEAFDRUM_ABSENT, REFUSED);
     if (!broken) ends(i, r.answer, r.node);
 }
 
 /* What a list has to report: its turns, done one by one on memory that is put back. */
 static R turn_by_turn(const uint8_t *entry, uint32_t count, uint32_t limit) {
-    static uint32_t kept_nodes[2 * NODES], kept_levels[LEVEL_WORDS], kept_workers[RECORD * WORKERS];
     const S kept = s;
-    /* no turn takes more than one level */
-    size_t changed = (2 + entries()) * (size_t)(s.levels_taken + count);
-    if (changed > level_words) changed = level_words;
     exchanges e = {0, 0};
     R told = {0};
-    memcpy(kept_nodes, nodes, 2 * s.nodes * sizeof *nodes);
-    memcpy(kept_levels, levels, changed * sizeof *levels);
-    memcpy(kept_workers, workers, RECORD * s.workers * sizeof *workers);
+    keep(count);
     for (uint32_t k = 0; k < count && told.turns < limit; k++) {
         count_next(entry[k], &e);
         R r = OF_TABLE(turn)(s, entry[k], AREAS);
@@ -221,14 +261,14 @@ static R turn_by_turn(const uint8_t *entry, uint32_t count, uint32_t limit) {
     told.exchanges_done = (uint32_t)e.done, told.exchanges_failed = (uint32_t)e.failed;
     s = kept;
     memcpy(nodes, kept_nodes, 2 * s.nodes * sizeof *nodes);
-    memcpy(levels, kept_levels, changed * sizeof *levels);
+    memcpy(levels, kept_levels, kept_level_words * sizeof *levels);
     memcpy(workers, kept_workers, RECORD * s.workers * sizeof *workers);
     return told;
 }
 
-/* A list tells no ends: they are read as last answers. Its "new" come first here, as a list does not tell the order of its ends. */
+/* A list tells no ends: they are read as last answers. Its "absent" come first here and then its "new", as a list does not tell the order of its ends. */
 static void list(void) {
-    static const uint32_t order[] = {LEAFDRUM_NEW, LEAFDRUM_FOUND, LEAFDRUM_FULL};
+    static const uint32_t order[] = {LEAFDRUM_ABSENT, LEAFDRUM_NEW, LEAFDRUM_FOUND, LEAFDRUM_FULL};
     uint8_t entry[40];
     R last[WORKERS];
     uint32_t count = draw(sizeof entry + 1), limit = draw(50);
@@ -243,7 +283,7 @@ static void list(void) {
         must(last[i].number == 0 && (calls[i].open || last[i].answer == calls[i].answer), LAST);
     }
     turns_done += r.turns, lists_done++;
-    for (int a = 0; a < 3; a++)
+    for (int a = 0; a < 4; a++)
         for (uint32_t i = 0; i < s.workers && !broken; i++)
             if (calls[i].open && last[i].answer == order[a]) ends(i, last[i].answer, last[i].node);
 }
@@ -253,10 +293,13 @@ static void refused_by(uint32_t number, R r, S given) {
     must(r.exchanges_done == 0 && r.exchanges_failed == 0, COUNTED);
 }
 
-/* A width that is none of the four, and one word less than the width asks for in one of the areas; the opening or a turn of worker i. */
+/* A width that is none of the four, more viewers than workers, and one word less than the width asks for in one of the areas; the opening or a turn of worker i. */
 static void refused_sizes(uint32_t i, int opening) {
-    S other = s;
+    S other = s, many = s;
     uint32_t less = draw(3);
+    many.viewers = s.workers + 1 + (draw(2) ? 0 : draw(1u << 31));
+    must(OF_TABLE(level_count)(many) == 0, SIZES);
+    refused_by(1, opening ? OF_TABLE(open)(many, AREAS) : OF_TABLE(turn)(many, i, AREAS), many);
     while (other.width == 2 || other.width == 3 || other.width == 4 || other.width == 6) other.width = draw(4) ? draw(10) : draw(1u << 31);
     must(OF_TABLE(level_count)(other) == 0, SIZES);
     refused_by(1, opening ? OF_TABLE(open)(other, AREAS) : OF_TABLE(turn)(other, i, AREAS), other);
@@ -267,12 +310,13 @@ static void refused_sizes(uint32_t i, int opening) {
 /* Refused operations belong to a sequence too: they open and end nothing. */
 static void refused(uint32_t i) {
     uint8_t entry[2] = {0, (uint8_t)(s.workers + draw(200))};
-    switch (draw(5)) {
-    case 0: refused_by(4, OF_TABLE(start)(s, s.workers + draw(9), 1, 2, AREAS), s); break;
+    switch (draw(6)) {
+    case 0: refused_by(4, draw(2) ? call(s.workers + draw(9), 1, 2) : other_call(s.workers + draw(9), 1, 2), s); break;
     case 1: refused_by(4, OF_TABLE(turns)(s, entry, 2, 2, AREAS), s); break;
-    case 2: refused_by(5, OF_TABLE(start)(s, i, 4096, draw(4096), AREAS), s); break;
+    case 2: refused_by(5, draw(2) ? call(i, 4096, draw(4096)) : other_call(i, 4096, draw(4096)), s); break;
     case 3: refused_sizes(i, 0); break;
-    default: refused_by(calls[i].open ? 7 : 8, calls[i].open ? OF_TABLE(start)(s, i, 1, 2, AREAS) : OF_TABLE(turn)(s, i, AREAS), s);
+    case 4: refused_by(17, other_call(i, draw(4096), 4095), s); break;
+    default: refused_by(calls[i].open ? 7 : 8, calls[i].open ? call(i, 1, 2) : OF_TABLE(turn)(s, i, AREAS), s);
     }
 }
 
@@ -304,7 +348,7 @@ static void compare(void) {
         must(holds[n] || node_seen[n] != visit, NOT_PLACED);
         must(!holds[n] || nodes[2 * n] == book[holds[n] - 1].pixel, PIXEL_WORD);
     }
-    must(s.levels_taken - levels_reached <= s.workers, LEVELS_HELD);
+    must(s.levels_taken - levels_reached <= placing(), LEVELS_HELD);
 }
 
 static void last_answers(void) {
@@ -333,7 +377,8 @@ static void open_table(void) {
     static const uint32_t sizes[] = {4, 16, 16, 32, 64};
     uint32_t bits = 1, mask, base = draw(1 << 24), large = draw(500);
     s.workers = 1 + draw(draw(2) ? 4 : WORKERS);
-    between = s.workers > 1 && draw(4) == 0;
+    s.viewers = draw(2) ? 0 : draw(s.workers + 1);
+    between = placing() > 1 && draw(4) == 0;
     s.limit = between && draw(4) ? 1 : 1 + draw(draw(4) ? 2 : 8);
     s.nodes = large == 0 ? NODES : 1 + draw(large < 20 ? 400 : sizes[draw(5)]);
     if (between) s.nodes = 12 + draw(21); /* enough for a pixel more than there are Moves */
@@ -372,17 +417,19 @@ static void alone(uint32_t i) {
     }
 }
 
-/* A node that hangs where no search comes is missed when its pixel is asked for once more. */
+/* A node that hangs where no search comes is missed when its pixel is asked for once more. In small tables a viewer looks every pixel up, placed or not. */
 static void ask_again(void) {
     for (uint32_t i = 0; i < s.workers; i++) alone(i);
     for (uint32_t k = 0; k < pixels && !broken; k++)
         if (book[k].placed) start(0, k), alone(0);
+    for (uint32_t k = 0; k < pixels && s.viewers && small() && !broken; k++) start(s.workers - 1, k), alone(s.workers - 1);
 }
 
 /* A worker that is told "full" has no spare node: once each is told so, every node is placed. */
 static void fill(void) {
     uint32_t k = 0, i = 0;
-    while (i < s.workers && !broken) {
+    if (!placing()) return;
+    while (i < placing() && !broken) {
         while (k < pixels && book[k].placed) k++;
         if (k == pixels) return;
         start(i, k), alone(i);
@@ -394,7 +441,7 @@ static void fill(void) {
 /* Another worker's call comes between, just before worker i looks where its node goes: if it places a pixel there, worker i has to move that one's chain first,
    inside its own Move. Most often it is the nearest pixel that is not placed. Random orders alone seldom have more than a few Moves one inside another. */
 static void come_between(uint32_t i) {
-    uint32_t j = (i + 1 + draw(s.workers - 1)) % s.workers, k = draw(pixels), near = set_pixel(workers + RECORD * i);
+    uint32_t j = (i + 1 + draw(placing() - 1)) % placing(), k = draw(pixels), near = set_pixel(workers + RECORD * i);
     operation++;
     for (uint32_t n = draw(8) ? 0 : pixels; n < pixels; n++)
         if (!book[n].placed && (book[k].placed || (book[n].pixel ^ near) < (book[k].pixel ^ near))) k = n;
@@ -420,7 +467,7 @@ static void run(void) {
         if (operation % 16 == 0 && !broken) last_answers();
     }
     ask_again();
-    if (s.nodes <= 64) fill();
+    if (small()) fill();
 }
 
 int main(int count, char **word) {
@@ -436,13 +483,14 @@ int main(int count, char **word) {
     for (int c = 0; c < CHECKS; c++)
         if (tables_with[c]) printf("row: %s: in %u of %llu tables\n", names[c], tables_with[c], (unsigned long long)tables);
     if (bad) return 1;
-    printf("row: %llu tables, %lu turns, %lu lists; %lu new, %lu found, %lu full; reached nodes compared %lu times; ", (unsigned long long)tables, turns_done,
-           lists_done, ended[LEAFDRUM_NEW], ended[LEAFDRUM_FOUND], ended[LEAFDRUM_FULL], compared);
+    printf("row: %llu tables, %lu turns, %lu lists; %lu new, %lu found, %lu full, %lu absent; reached nodes compared %lu times; ", (unsigned long long)tables, turns_done,
+           lists_done, ended[LEAFDRUM_NEW], ended[LEAFDRUM_FOUND], ended[LEAFDRUM_FULL], ended[LEAFDRUM_ABSENT], compared);
     printf("exchanges %lu done, %lu failed, the bound reached %lu times; Moves one inside another", in_all.done, in_all.failed, bound_reached);
     for (int k = 0; k < WIDTHS; k++) printf("%s %u at width %u", k ? "," : "", deepest[k], widths[k].width);
     puts("");
     /* what the tests' own run never reaches was not tested */
-    if (count == 1 && (!ended[LEAFDRUM_FULL] || !lists_done || !bound_reached)) return puts("row: a full call, a list or the bound was never reached"), 1;
+    if (count == 1 && (!ended[LEAFDRUM_FULL] || !ended[LEAFDRUM_ABSENT] || !lists_done || !bound_reached))
+        return puts("row: a full call, an absent one, a list or the bound was never reached"), 1;
     for (int k = 0; k < WIDTHS; k++)
         if (count == 1 && deepest[k] != widths[k].last) return printf("row: as many Moves as there can be were not reached at width %u\n", widths[k].width), 1;
     return 0;

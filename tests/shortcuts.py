@@ -1,6 +1,6 @@
 #!/usr/bin/env python3
-"""Wrong versions of bench/by_hand.c, document 01's four shortcuts first, numbers of another digit width last: tests/row.c must find each, by the checks named
-with it; the file as it is must pass.
+"""Wrong versions of bench/by_hand.c, document 01's four shortcuts first, then numbers of another digit width, viewers last: tests/row.c must find each, by the
+checks named with it; the file as it is must pass.
 Relies on tests/row.c, whose lines it reads, and on gcc. python3 tests/shortcuts.py [SEED]"""
 import os
 import re
@@ -34,6 +34,15 @@ ENTRIES = "        for (uint32_t e = 2; e < d->words; e++) x[e] = 2 * g;\n"
 WALK = "    for (uint32_t n = 0; n < d->last; n++) {\n"
 NEW_LEVEL = "w[W_HLEVEL] <= s->levels_taken && (at = level(d, levels, h))[1] < d->last);"
 ROOM = "        word = w[W_MOVES] < d->last ? "
+# and with viewers
+LOOKS = "        if (word != 2 * h) w[W_KIND] = READ;\n        else if (views) goto absent;\n"
+TAILS = "        if (word != 2 * h || w[W_COUNT] > s->limit) w[W_KIND] = k == TAIL ? FOLLOW : SETFOLLOW;\n        else if (views) goto absent;\n"
+ABSENT = "        w[W_KIND] = IDLE, w[W_ANSWER] = 5, w[W_ANODE] = 0;\n        *answer = 5;\n        return 0;\n"
+ASKED = "    if (viewer(&s, i) != looks) return reply(17, 0, 0, s);\n"
+PIXEL_ASKED = "    if (row > 4095 || column > 4095) return reply(5, 0, 0, s);\n"
+BUSY = "    if (w[W_KIND] != IDLE) return reply(7, 0, 0, s);\n"
+AT_ITS_KINDS = " || (views && !(VIEWS >> k & 1))"
+LISTED = "        if (q == 8) continue;\n"
 
 
 def failing(kind, what):
@@ -44,6 +53,11 @@ def failing(kind, what):
 def uncompared(text, kind):
     """The exchange of this kind is done whatever it meets."""
     return text, text.replace("exchange(x, 2 * h", "exchange(x, k == %s ? *x : 2 * h" % kind).replace("if (word", "if (k != %s && word" % kind)
+
+
+def unended(text):
+    """A viewer's call goes on where it ends "absent"."""
+    return text, text.replace("        else if (views) goto absent;\n", "")
 
 
 def without(text, kind):
@@ -125,7 +139,7 @@ VERSIONS = [
     ("a failed Put is tried again", ["BOUND"], [failing("PUT", "*failed = 1; return 0;")]),
     ("a failed Append is tried again", ["BOUND"], [failing("APPEND", "*failed = 1; return 0;")]),
     ("a failed Close is tried again", ["BOUND"], [(CLOSES, CLOSES + "            if (k == CLOSE) { *failed = 1; return 0; }\n")]),
-    ("Look takes a used entry for empty", ["BOUND", "ALONE"], [("word == 2 * h ? TAKE : READ;", "TAKE;")]),
+    ("Look takes a used entry for empty", ["BOUND", "ALONE"], [(LOOKS, LOOKS.replace("2 * h)", "2 * h && views)"))]),
     ("SetLook takes a used entry for empty", ["ALONE"], [("word == 2 * h ? SETPUT : SETREAD;", "SETPUT;")]),
     # 7 and 8, 10 and 128 at every width; a number of the last depth one too low
     ("the level count has 7 at every width", ["SIZES"], [(DIMS, DIMS.replace("d->last *", "7 *"))]),
@@ -159,6 +173,42 @@ VERSIONS = [
     ("room for a Move less", ["SIX"], [(ROOM, ROOM.replace("d->last", "d->last - 1")), ("NEED(w[W_MOVES] < d->last)", "NEED(w[W_MOVES] < d->last - 1)")]),
     ("a record fits with 7 Moves", ["SIX"], [("    if (m - 1 >= d->last) return 0;\n", "    if (m - 1 >= 7) return 0;\n")]),
     ("a record fits with a Move less", ["SIX"], [("    if (m - 1 >= d->last) return 0;\n", "    if (m >= d->last) return 0;\n")]),
+    # viewers: where their calls end, and with what
+    ("a viewer's Look goes to Take", ["SIX"], [unended(LOOKS)]),
+    ("a viewer's Tail goes to TakeTail and Level", ["SIX"], [unended(TAILS)]),
+    ("a viewer places", ["LOOKED"], [unended(LOOKS), unended(TAILS), (AT_ITS_KINDS, "")]),
+    ("absent a turn later", ["ABSENT_PLACED"], [
+        unended(LOOKS), unended(TAILS), (AT_ITS_KINDS, ""),
+        ("    case TAKETAIL:\n", "    case TAKETAIL:\n        if (views) goto absent;\n"), ("    case SETLEVEL:\n", "    case SETLEVEL:\n        if (views) goto absent;\n")]),
+    ("a viewer's Look takes a used entry for empty", ["ABSENT_PLACED"], [(LOOKS, LOOKS.replace("2 * h)", "2 * h && !views)"))]),
+    ("a viewer's Tail ends at any next", ["ABSENT_PLACED"], [(TAILS, TAILS.replace("word != 2 * h ||", "(word != 2 * h && !views) ||"))]),
+    ("a viewer's Read passes over its pixel", ["ABSENT_PLACED"], [(SAME, SAME.replace("(nodes", "((k != READ || !views) && nodes"))]),
+    ("a viewer's Follow passes over its pixel", ["ABSENT_PLACED"], [(SAME, SAME.replace("(nodes", "((k != FOLLOW || !views) && nodes"))]),
+    ("shortcut 2 of a viewer, on at the level met", ["ABSENT_PLACED"], [(BACK, BACK.replace("k != PUT)", "k != PUT && !views)"))]),
+    ("a viewer is told new", ["SORT"], [(FOUND, FOUND.replace("*answer = 2", "*answer = views ? 1 : 2"))]),
+    ("a viewer is told full", ["SORT"], [(ABSENT, ABSENT.replace("answer = 5", "answer = 3").replace("return 0", "return 9"))]),
+    ("absent in place of full", ["SORT"], [("            w[W_KIND] = IDLE, w[W_ANSWER] = 3, w[W_ANODE] = 0;\n", "            goto absent;\n")]),
+    ("absent keeps the answer before", ["LAST"], [(ABSENT, ABSENT.replace(", w[W_ANSWER] = 5, w[W_ANODE] = 0", ""))]),
+    ("absent is read as none", ["LAST"], [("return reply(0, w[W_ANSWER], ", "return reply(0, w[W_ANSWER] % 5, ")]),
+    ("absent takes a number", ["TAKEN"], [(ABSENT, "        s->nodes_taken += s->nodes_taken < s->nodes;\n" + ABSENT)]),
+    ("absent fills the next node", ["LOOKED"], [(ABSENT, "        if (s->nodes_taken < s->nodes) nodes[2 * s->nodes_taken] = w[W_PIXEL] ^ 1 << 24;\n" + ABSENT)]),
+    ("absent does not fit as a last answer", ["SIX"], [(" | 1 << LEAFDRUM_ABSENT };", " };")]),
+    ("a viewer's record does not fit at Follow", ["SIX"], [("1 << TAIL | 1 << FOLLOW,", "1 << TAIL,")]),
+    # who they are, how many, and 17
+    ("the first workers are viewers", ["REFUSED"], [("return i >= s->workers - s->viewers;", "return i < s->viewers;")]),
+    ("a viewer fewer", ["REFUSED"], [("return i >= s->workers - s->viewers;", "return i > s->workers - s->viewers;")]),
+    ("any number of viewers is taken", ["SIZES"], [(" || s->viewers > s->workers)", ")")]),
+    ("a viewer more than workers is taken", ["SIZES"], [("s->viewers > s->workers)", "s->viewers > s->workers + 1)")]),
+    ("all workers may not be viewers", ["SIZES"], [("s->viewers > s->workers)", "s->viewers >= s->workers)")]),
+    ("the level count is without viewers", ["SIZES"], [(DIMS, DIMS.replace("+ s->workers;", "+ s->workers - s->viewers;"))]),
+    ("every opening is without viewers", ["REFUSED"], [("    s.levels_taken = 1;\n", "    s.levels_taken = 1;\n    s.viewers = 0;\n")]),
+    ("a placing call on a viewer is taken", ["REFUSAL"], [(ASKED, ASKED.replace("!= looks", "< looks"))]),
+    ("a looking call on another worker is taken", ["REFUSAL"], [(ASKED, ASKED.replace("!= looks", "> looks"))]),
+    ("17 before 5", ["REFUSAL"], [(PIXEL_ASKED + ASKED, ASKED + PIXEL_ASKED)]),
+    ("17 after 7", ["REFUSAL"], [(ASKED, ""), (BUSY, BUSY + ASKED)]),
+    ("a list passes over viewers", ["DONE"], [(LISTED, LISTED.replace("q == 8", "q == 8 || views"))]),
+    ("a list ends with an absent", ["DONE"], [(LISTED, LISTED + "        if (answer == 5) { done++; break; }\n")]),
+    ("an absent counts as a failed exchange", ["COUNTED"], [(COUNTS, COUNTS + "        if (answer == 5) exchanges++, failures++;\n")]),
 ]
 
 
@@ -205,7 +255,7 @@ def tried(program, tables):
 def missed(name, by, text):
     """The checks named with a version that do not find it; prints what finds it."""
     program = built(text, "-O0")
-    for tables in (100, 1000, 10000):
+    for tables in (100, 1000, 3000, 10000):
         _, found = tried(program, tables)
         missing = [c for c in by if checks[c] not in found]
         if not missing:

@@ -48,7 +48,7 @@ def amid(st, i):
     """What worker i is amid, in one line."""
     w = st.worker(i)
     if w["kind"] == "Idle":
-        said = ["none", "new n%d" % w["answer_node"], "found n%d" % w["answer_node"], "full"][w["answer"]]
+        said = ["none", "new n%d" % w["answer_node"], "found n%d" % w["answer_node"], "full", "", "absent"][w["answer"]]
         line = "idle, last answer " + said
     else:
         line = "%s, pixel %d, level L%d" % (w["kind"], w["pixel"], w["level"])
@@ -58,7 +58,7 @@ def amid(st, i):
         line += ", holds L%d" % (w["held_level"] - 1)
     for home, child, count, *nodes in w["list"]:
         line += "; moves the chain of L%d to L%d, to be set: %s" % (home, child, " ".join("n%d" % n for n in nodes[:count]) or "none")
-    return "worker %d: %s" % (i, line)
+    return "%s %d: %s" % ("viewer" if st.views(i) else "worker", i, line)
 
 
 def draw(st, title):

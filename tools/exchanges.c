@@ -45,7 +45,7 @@ static void table(enum load l, uint32_t crew, unsigned long *done, unsigned long
     uint8_t list[WORKERS];
     uint32_t place = draw(1 << 24), started = 0, open;
     int together = l == RACE || l == ONE_PIXEL;
-    leafdrum_reply r = carried(leafdrum_open((leafdrum_settings){crew, limits[l], NODES, 0, 0, WIDTH}, AREAS));
+    leafdrum_reply r = carried(leafdrum_open((leafdrum_settings){.workers = crew, .limit = limits[l], .nodes = NODES, .width = WIDTH}, AREAS));
     do {
         open = 0;
         for (uint32_t i = 0; i < crew; i++) open += leafdrum_last(r.settings, i, AREAS).answer == LEAFDRUM_OPEN;

@@ -106,7 +106,7 @@ def by_workers(runs):
     out = p.axes("1 to 16 workers", "workers", "failed for each exchange done", [(v, str(v)) for v in (1, 2, 4, 6, 8, 10, 12, 14, 16)],
                  [(v, str(v)) for v in (0.01, 0.03, 0.1, 0.3, 1, 3, 10)])
     out.append(curve([(p.x(n), p.y(n - 1)) for n in range(2, CREW + 1)], "#000", ' stroke-dasharray="5,4"'))
-    out.append(text(p.x(3), p.y(13), "bound: workers − 1", "#000"))
+    out.append(text(p.x(3), p.y(13), "bound: placing workers − 1", "#000"))
     labels = []
     for k, (name, colour, _) in enumerate(LOADS):
         rates = [(n, runs[k, n][-1][1] / runs[k, n][-1][0]) for n in range(1, CREW + 1)]
@@ -128,8 +128,8 @@ DOCUMENT = """# How often exchanges fail
 Written by `python3 tools/exchanges.py text` from what the library's lists of turns report; the tests compare it with a new run.
 
 An exchange is the one access by which a turn puts a node or a level where others look for it: Put, Append and Close, and the same inside a Move. It fails if another worker was there first;
-the turn then acts on the word that it met. In every sequence from an opening, failed exchanges are at most (workers − 1) × those done; with one worker none fails. The bound is
-reached: where {crew} workers race for one pixel, one exchange is done and {others} fail.
+the turn then acts on the word that it met. In every sequence from an opening, failed exchanges are at most (placing workers − 1) × those done; with one none fails, and viewers make none.
+The bound is reached: where {crew} workers race for one pixel, one exchange is done and {others} fail.
 
 ![exchanges failed against exchanges done, and the bound](pictures/exchanges.svg)
 

@@ -37,6 +37,10 @@ class State:
         d["list"] = [w[16 + 11 * j:27 + 11 * j] for j in range(w[9])]
         return d
 
+    def views(self, i):
+        """Whether worker i is a viewer."""
+        return i >= self.settings[0] - self.settings[5]
+
     def chain(self, word):
         """The nodes from a reference on, and the reference behind the last of them."""
         found = []

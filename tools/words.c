@@ -11,7 +11,7 @@ static uint32_t nodes[LEAFDRUM_NODE_AREA(NODES)], levels[LEAFDRUM_LEVEL_AREA(WOR
 static unsigned char text[65537];
 
 static void state(leafdrum_settings s) {
-    printf("settings %u %u %u %u %u %u\n", s.workers, s.limit, s.nodes, s.nodes_taken, s.levels_taken, s.width);
+    printf("settings %u %u %u %u %u %u %u\n", s.workers, s.limit, s.nodes, s.nodes_taken, s.levels_taken, s.viewers, s.width);
     for (uint32_t i = 0; i < s.nodes_taken; i++) printf("node %u %u %u\n", i, nodes[2 * i], nodes[2 * i + 1]);
     for (uint32_t g = 0; g < s.levels_taken; g++) {
         printf("level %u", g);
@@ -52,14 +52,16 @@ static int reads(const unsigned char *p, size_t n, char letter, int count, uint3
 }
 
 static leafdrum_reply carry(leafdrum_settings s, int first, const unsigned char *p, size_t n) {
-    uint32_t v[3];
+    uint32_t v[4] = {0};
     leafdrum_reply unread = {.number = 10, .settings = s};
     if (first) {
-        if (!reads(p, n, 's', 3, v)) return unread;
+        /* without a fifth field there are no viewers */
+        if (!reads(p, n, 's', 4, v) && (v[3] = 0, !reads(p, n, 's', 3, v))) return unread;
         unread.number = 1;
-        return v[2] > NODES ? unread : leafdrum_open((leafdrum_settings){v[0], v[1], v[2], 0, 1, WIDTH}, AREAS);
+        return v[2] > NODES ? unread : leafdrum_open((leafdrum_settings){v[0], v[1], v[2], 0, 1, v[3], WIDTH}, AREAS);
     }
     if (reads(p, n, 'c', 3, v)) return leafdrum_start(s, v[0], v[1], v[2], AREAS);
+    if (reads(p, n, 'v', 3, v)) return leafdrum_view(s, v[0], v[1], v[2], AREAS);
     if (reads(p, n, 't', 1, v)) return leafdrum_turn(s, v[0], AREAS);
     return unread;
 }

@@ -17,7 +17,7 @@ use Rattle.rules.specs.Operations.{Result, result, reply, opening}
 use Rattle.rules.specs.Lists.{state, after}
 use Rattle.rules.proofs.Carried.{opening-done}
 use Rattle.words.proofs.Choice.{both-left, both-right, both-true, every-at}
-use Rattle.bench.specs.Table.{Row, passes, firstRows, moveRows, fullRows, workerRow, exchangeRows, narrowRows, wideRows, otherWidths, table, given, lent, linesPass}
+use Rattle.bench.specs.Table.{Row, passes, firstRows, moveRows, fullRows, workerRow, exchangeRows, narrowRows, wideRows, otherWidths, viewerRows, table, given, lent, linesPass}
 use Rattle.bench.specs.Everything.{everything}
 
 -- rows behind rows
@@ -87,6 +87,10 @@ wide-pass : every passes wideRows ≡ true
 unfolding everything
 wide-pass = refl
 
+viewer-pass : every passes viewerRows ≡ true
+unfolding everything
+viewer-pass = refl
+
 other-pass : every passes otherWidths ≡ true
 unfolding everything
 other-pass = refl
@@ -100,7 +104,8 @@ all-pass =
     (every-append passes (workerRow ∷ []) _ worker-pass
     (every-append passes exchangeRows _ exchange-pass
     (every-append passes narrowRows _ narrow-pass
-    (every-append passes wideRows _ wide-pass other-pass))))))
+    (every-append passes wideRows _ wide-pass
+    (every-append passes otherWidths _ other-pass viewer-pass)))))))
 
 pub each-passes : (r : Row) → List·Memᴰ r table → passes r ≡ true
 each-passes r i = every-at passes all-pass i

@@ -1,5 +1,5 @@
 -- Document 01's "Bench cases (P: in the proved table)", and rows of document 02. Each row opens a table over words that are all 7, and says what must be answered.
--- Document 01's rows are at width 3, and rows at the other widths follow them. Relies on the operations' definitions.
+-- Document 01's rows are at width 3 and without viewers; rows at the other widths and rows with viewers follow them. Relies on the operations' definitions.
 use Prim.Native.Nat.{ℕ, zero, suc, _*_}
 use mathlib.Core.Bool.{Bool, true, false}
 use mathlib.Core.List.{List, [], _∷_, _++_}
@@ -10,7 +10,7 @@ use Rattle.settings.specs.Sizes.{nodeWords, levelWords, workerWords, levelCount
 use Rattle.settings.specs.declared.Settings.{Settings}
 use Rattle.areas.specs.Memory.{Areas, areas}
 use Rattle.record.specs.declared.Answer.{Answer}
-use Rattle.record.specs.declared.Answer.the-variants.{Nothing, New, Found, Full, Open}
+use Rattle.record.specs.declared.Answer.the-variants.{Nothing, New, Found, Full, Open, Absent}
 use Rattle.record.specs.declared.Reply.{Reply}
 use Rattle.record.specs.Kinds.{answerNo, answerNode}
 use Rattle.rules.specs.Operations.{opening}
@@ -19,31 +19,38 @@ use Rattle.rules.specs.Calls.{starts, turns, happens}
 use Rattle.rules.specs.Exchanges.{listReport}
 
 -- A line of a row.
---   start i r c n: a start of worker i for row r and column c has number n
+--   start i r c n: a placing start of worker i for row r and column c has number n
+--   view i r c n: the same of a looking start
 --   runs i k n a: worker i has k turns; before the last one the call goes on, and the last one has number n and answer a
 --   lists l d f: a list of turns l does all of them, and reports d exchanges done and f failed
 --   taken n g: nodes taken and levels taken
 pub data Line : Type 0 where
   start : ℕ → ℕ → ℕ → ℕ → Line
+  view : ℕ → ℕ → ℕ → ℕ → Line
   runs : ℕ → ℕ → ℕ → Answer → Line
   lists : List ℕ → ℕ → ℕ → Line
   taken : ℕ → ℕ → Line
 
--- width, workers, chain limit, nodes, the number that the opening has, and the lines after it
+-- width, workers, how many of them are viewers, chain limit, nodes, the number that the opening has, and the lines after it
 pub record Row : Type 0 where
   pub width : ℕ
   pub workers : ℕ
+  pub viewers : ℕ
   pub limit : ℕ
   pub nodes : ℕ
   pub number : ℕ
   pub lines : List Line
 
 abbrev pub rowAt : ℕ → ℕ → ℕ → ℕ → ℕ → List Line → Row
-rowAt w k l n q ls = record { width = w; workers = k; limit = l; nodes = n; number = q; lines = ls }
+rowAt w k l n q ls = record { width = w; workers = k; viewers = 0; limit = l; nodes = n; number = q; lines = ls }
 
 -- document 01's width
 abbrev pub row : ℕ → ℕ → ℕ → ℕ → List Line → Row
 row = rowAt 3
+
+-- with viewers, at document 01's width
+abbrev pub rowOf : ℕ → ℕ → ℕ → ℕ → ℕ → List Line → Row
+rowOf k v l n q ls = record { width = 3; workers = k; viewers = v; limit = l; nodes = n; number = q; lines = ls }
 
 -- (0,0) is new 0 after 3 turns
 abbrev pub first : List Line
@@ -140,12 +147,27 @@ otherWidths =
     ∷ rowAt 7 1 1 2 1 []
     ∷ []
 
+-- document 02, viewers
+unfoldable pub viewerRows : List Row
+viewerRows =
+    -- "Where a worker would go to Take, TakeTail or Level, it ends "absent"": on an empty table in Look, at the end of a chain in Tail, below the limit and at it
+    rowOf 2 1 2 8 0 (view 1 0 0 0 ∷ runs 1 1 0 Absent ∷ first ++ view 1 0 1 0 ∷ runs 1 3 0 Absent ∷ taken 1 1 ∷ [])
+    ∷ rowOf 2 1 1 8 0 (first ++ view 1 0 1 0 ∷ runs 1 3 0 Absent ∷ taken 1 1 ∷ [])
+    -- and a pixel that is there is found
+    ∷ rowOf 2 1 2 8 0 (first ++ view 1 0 0 0 ∷ runs 1 2 0 (Found 0) ∷ taken 1 1 ∷ [])
+    -- "a placing call on a viewer, a looking call on another worker", the busy one's too
+    ∷ rowOf 2 1 2 8 0 (start 1 0 0 17 ∷ view 0 0 0 17 ∷ view 1 0 0 0 ∷ start 1 0 0 17 ∷ view 1 0 0 7 ∷ start 1 4096 0 5 ∷ [])
+    -- "0 up to all of them, and more is refusal 1"
+    ∷ rowOf 1 1 1 1 0 (start 0 0 0 17 ∷ view 0 0 0 0 ∷ runs 0 1 0 Absent ∷ taken 0 1 ∷ [])
+    ∷ rowOf 1 2 1 1 1 []
+    ∷ []
+
 unfoldable pub table : List Row
-table = firstRows ++ (moveRows ++ (fullRows ++ ((workerRow ∷ []) ++ (exchangeRows ++ (narrowRows ++ (wideRows ++ otherWidths))))))
+table = firstRows ++ (moveRows ++ (fullRows ++ ((workerRow ∷ []) ++ (exchangeRows ++ (narrowRows ++ (wideRows ++ (otherWidths ++ viewerRows)))))))
 
 -- the settings and areas that a row's opening is given: every word, also nodes taken and levels taken, is 7
 abbrev pub given : Row → Settings
-given r = record { workers = r .workers; limit = r .limit; nodes = r .nodes; «nodes_taken» = 7; «levels_taken» = 7; width = r .width }
+given r = record { workers = r .workers; limit = r .limit; nodes = r .nodes; «nodes_taken» = 7; «levels_taken» = 7; viewers = r .viewers; width = r .width }
 
 unfoldable pub lent : Row → Areas
 lent r =
@@ -167,7 +189,8 @@ runsOf i (suc (suc k)) n a x = more (runsOf i (suc k) n a (after (happens (x .se
     more (b, y) = (both (gives (happens (x .settings .width) (turns i) x .reply) 0 Open) b, y)
 
 unfoldable pub lineOf : Line → State → Bool × State
-lineOf (start i r c n) x = (eqb (happens (x .settings .width) (starts i r c) x .reply .number) n, after (happens (x .settings .width) (starts i r c) x))
+lineOf (start i r c n) x = (eqb (happens (x .settings .width) (starts false i r c) x .reply .number) n, after (happens (x .settings .width) (starts false i r c) x))
+lineOf (view i r c n) x = (eqb (happens (x .settings .width) (starts true i r c) x .reply .number) n, after (happens (x .settings .width) (starts true i r c) x))
 lineOf (runs i k n a) x = runsOf i k n a x
 lineOf (lists l d f) x =
     let r = listReport (x .settings .width) (x .settings) l (length l) (x .areas) in

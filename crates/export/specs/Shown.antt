@@ -11,7 +11,7 @@ use Rattle.rules.specs.Operations.{Result}
 use Rattle.rules.specs.Exchanges.{Report}
 use Rattle.export.specs.declared.LeafdrumReply.{LeafdrumReply}
 
--- a reply as numbers: answer 0 none, 1 new, 2 found, 3 full, 4 open, and its node; and exchanges done and failed
+-- a reply as numbers: answer 0 none, 1 new, 2 found, 3 full, 4 open, 5 absent, and its node; and exchanges done and failed
 unfoldable pub numbersOf : Reply → ℕ → ℕ → LeafdrumReply
 numbersOf r done failed =
     record {

@@ -1,6 +1,7 @@
 // The C interface: the public operations with their answers as numbers. include/leafdrum.h declares it; tests/headers.py compares the two.
 // Relies on table for the operations, on lists for the parts of a turn and of a list of turns.
 ghost use mathlib.Core.Path.{_≡_};
+ghost use mathlib.Core.Bool.{true, false};
 ghost use Prim.Native.Nat.{_-_};
 ghost use Rattle.areas.specs.Memory.{areas};
 ghost use Rattle.record.specs.Kinds.{answerNo, answerNode};
@@ -36,6 +37,7 @@ fn answer_no(a: Answer) -> u32
         Answer::Found(_) => 2,
         Answer::Full => 3,
         Answer::Open => 4,
+        Answer::Absent => 5,
     }
 }
 
@@ -48,6 +50,7 @@ fn answer_node(a: Answer) -> u32
         Answer::Found(n) => n,
         Answer::Full => 0,
         Answer::Open => 0,
+        Answer::Absent => 0,
     }
 }
 
@@ -118,9 +121,26 @@ pub extern "C" fn leafdrum_start(
     levels: &mut [u32],
     workers: &mut [u32],
 ) -> LeafdrumReply
-    ensures { λ r. ⌜ shown r (areas (now (nodes .exit)) (now (levels .exit)) (now (workers .exit))) ≡ exported (start (settings .width) settings worker row column (areas (now (nodes .entry)) (now (levels .entry)) (now (workers .entry)))) ⌝ }
+    ensures { λ r. ⌜ shown r (areas (now (nodes .exit)) (now (levels .exit)) (now (workers .exit))) ≡ exported (start (settings .width) settings false worker row column (areas (now (nodes .entry)) (now (levels .entry)) (now (workers .entry)))) ⌝ }
 {
-    let r = table::start(settings, worker, row, column, nodes, levels, workers);
+    let r = table::start(settings, false, worker, row, column, nodes, levels, workers);
+    numbers(r, 0, 0)
+}
+
+// A viewer's call starts.
+#[no_mangle]
+pub extern "C" fn leafdrum_view(
+    settings: Settings,
+    worker: u32,
+    row: u32,
+    column: u32,
+    nodes: &mut [u32],
+    levels: &mut [u32],
+    workers: &mut [u32],
+) -> LeafdrumReply
+    ensures { λ r. ⌜ shown r (areas (now (nodes .exit)) (now (levels .exit)) (now (workers .exit))) ≡ exported (start (settings .width) settings true worker row column (areas (now (nodes .entry)) (now (levels .entry)) (now (workers .entry)))) ⌝ }
+{
+    let r = table::start(settings, true, worker, row, column, nodes, levels, workers);
     numbers(r, 0, 0)
 }
 
@@ -138,6 +158,14 @@ pub extern "C" fn leafdrum_turn(
     let q = lists::refused_turn(s, worker, nodes, levels, workers);
     if q == 0 {} else {
         return ended_refused(q, s);
+    }
+    // a viewer's turn has its own function, so that the turns of the others do not pay for it
+    if s.views(worker) {
+        let d = turns::view_here(s, worker, nodes, levels, workers);
+        if d.number == 6 {
+            return ended_refused(6, s);
+        }
+        return ended_told(s, worker, workers);
     }
     // no entry but this worker
     let none = [0u8];

@@ -1,6 +1,6 @@
 -- One turn is a list of one entry: the ways through its functions, and that its reply is the turn's.
 -- Relies on Tells for the number that the record tells, on Ways for what refuses a turn before, on rules for its answer and for the numbers of a turn.
-use Prim.Native.Nat.{ℕ, _+_, _*_, _≤_}
+use Prim.Native.Nat.{ℕ, _+_, _*_, _≤_, _<_}
 use mathlib.Core.Path.{_≡_, refl, ap, ap₂, sym, subst, _∙_}
 use mathlib.Core.Logic.{_≢_}
 use mathlib.Core.Bool.{Bool, true, false}
@@ -8,12 +8,13 @@ use mathlib.Core.List.{List, [], _∷_}
 use native.Mathlib.Omega.{arith}
 use lib.Dec.{eqb, ltb}
 use lib.ListN.{length}
-use borrow.Author.Tests.{ne-eqb, eq-eqb, eqb-true}
+use borrow.Author.Tests.{ne-eqb, eq-eqb, eqb-true, ltb-true}
 use Rattle.words.specs.Choice.{pick, every}
 use Rattle.words.proofs.Choice.{pick-true, pick-false, both-true, both-left, both-right}
-use Rattle.settings.specs.Sizes.{question1, question3, workerWords}
-use Rattle.settings.specs.Cut.{counted, firstThree}
+use Rattle.settings.specs.Sizes.{question1, question3, workerWords, views}
+use Rattle.settings.specs.Cut.{counted, firstThree, Sized}
 use Rattle.settings.specs.declared.Settings.{Settings}
+use Rattle.settings.proofs.Laws.{sized}
 use Rattle.areas.specs.Memory.{Areas, areas}
 use Rattle.record.specs.declared.Answer.{Answer}
 use Rattle.record.specs.declared.Answer.the-variants.{Nothing, Open}
@@ -37,12 +38,14 @@ use Rattle.rules.proofs.Questions.{first-later}
 use Rattle.rules.proofs.Tells.{Tells, act-tells}
 use Rattle.table.specs.Cut.{firstFour}
 use Rattle.table.proofs.Questions.{both-zero}
+use Rattle.turns.specs.Cut.{did, didAs}
+use Rattle.turns.specs.declared.Done.{Done}
 use Rattle.turns.proofs.Ways.{four-yes, four-inside}
 use Rattle.lists.specs.declared.Tally.{Tally}
 use Rattle.lists.specs.declared.Told.{Told}
-use Rattle.lists.specs.Cut.{Run, run, countedBy, ranOf, ranBy, ranEntry, ranList, sameCounts, numberBy, toldBy, toldReply, refusedTurn}
+use Rattle.lists.specs.Cut.{Run, run, tally, countedBy, ranOf, ranBy, ranEntry, ranList, sameCounts, numberBy, toldBy, toldReply, refusedTurn, sixTally, nextTally, openTally}
 use Rattle.lists.proofs.Tells.{act-number}
-use Rattle.lists.proofs.Ways.{not-eight, turn-four, turn-open}
+use Rattle.lists.proofs.Ways.{not-eight, turn-four, turn-open, entry-open, views-so}
 
 -- the ways through its functions
 module _ (h : Head) where
@@ -89,7 +92,7 @@ module _ (w : ℕ) (s : Settings) (i : ℕ) (a : Areas) where
   first-among : Yes → Among (firstNo (turnQuestions w s i a))
   unfolding firstFour firstThree turnQuestions
   first-among e =
-      among (question1 s) (question2Of w s a) (question3 w s) (question4 s i) (question6 w s (recordOf a i) (memoryOf a)) (question8 (recordOf a i))
+      among (question1 s) (question2Of w s a) (question3 w s) (question4 s i) (question6 w (views s i) s (recordOf a i) (memoryOf a)) (question8 (recordOf a i))
       (question9 s (recordOf a i)) e
 
   numbers : Yes → Among (its .reply .number)
@@ -111,13 +114,13 @@ module _ (w : ℕ) (s : Settings) (i : ℕ) (a : Areas) where
   abbrev IsTold : Result → Type 0
   IsTold r = r .reply ≡ toldReply (headAt (r .areas .workers) i) (r .reply .settings)
 
-  taken-told : workerPlace i + 10 ≤ length (a .workers) → question8 (recordOf a i) ≡ true → IsTold (taken (act w s (recordOf a i) (memoryOf a)) i (a .workers))
+  taken-told : workerPlace i + 10 ≤ length (a .workers) → question8 (recordOf a i) ≡ true → IsTold (taken (act w (views s i) s (recordOf a i) (memoryOf a)) i (a .workers))
   unfolding taken
   taken-told room q =
-      let t : Step = act w s (recordOf a i) (memoryOf a) in
-      let k : Tells t = act-tells w s (recordOf a i) (memoryOf a) q in
+      let t : Step = act w (views s i) s (recordOf a i) (memoryOf a) in
+      let k : Tells (views s i) t = act-tells w (views s i) s (recordOf a i) (memoryOf a) q in
       let h : headAt (store (t .record′) i (a .workers)) i ≡ t .record′ .head = head-stored w (t .record′) i (a .workers) room in
-      rw (h, act-number w s (recordOf a i) (memoryOf a) q, k .answer-is) refl
+      rw (h, act-number w (views s i) s (recordOf a i) (memoryOf a) q, k .answer-is) refl
 
   full-told : workerPlace i + 10 ≤ length (a .workers) → IsTold (full s i a)
   unfolding full fullRecord numberBy lastOf ended kindNo answerOf pick
@@ -201,9 +204,31 @@ module _ (s : Settings) (i : ℕ) (n g k : List ℕ) (o : refusedTurn (s .width)
   unfolding firstFour
   one-three = both-zero (firstThree (s .width) s (length n) (length g) (length k)) _ four .0
 
+  pub one-sized : Sized s
+  one-sized = sized s (length n) (length g) (length k) one-three
+
   pub one-below : {l : List ℕ} → l ≡ i ∷ [] → every (λ (j : ℕ). ltb j (s .workers)) l ≡ true
   unfolding every firstFour question4
   one-below e = rw e (both-true (four-yes _ (both-zero (firstThree (s .width) s (length n) (length g) (length k)) _ four .1)) refl)
+
+  -- what its entry requires, with nothing tallied yet
+  abbrev begun : Tally
+  begun = tally 0 (s .«nodes_taken») (s .«levels_taken») 1 0 0
+
+  pub alone-three : firstThree (s .width) (countedBy s begun) (length n) (length g) (length k) ≡ 0
+  unfolding counted
+  alone-three = one-three
+
+  pub alone-below : i < s .workers
+  unfolding firstFour question4
+  alone-below = ltb-true _ _ (four-yes _ (both-zero (firstThree (s .width) s (length n) (length g) (length k)) _ four .1))
+
+  pub alone-open : 1 ≤ kindNo (headAt k i .kind)
+  alone-open = let y = turn-open (s .width) s i n g k o in omega arith
+
+  pub alone-ran : (u : Tally) {x : Areas} → ranOf s u x ≡ ranEntry (s .width) (ranOf s begun (areas n g k)) i → ranOf s u x ≡ ranList (s .width) (i ∷ []) (run 0 (state s (areas n g k)) 1 0 0)
+  unfolding ranList counted
+  alone-ran u e = e
 
   -- what it gives
   module _ (t : Tally) {x : Areas} {l : List ℕ} (p : ranOf s t x ≡ ranList (s .width) l (run 0 (state s (areas n g k)) 1 0 0)) (q : l ≡ i ∷ []) where
@@ -222,6 +247,28 @@ module _ (s : Settings) (i : ℕ) (n g k : List ℕ) (o : refusedTurn (s .width)
     one-open e f y c z =
         let v : eqb (kindNo (headAt (x .workers) i .kind)) 0 ≡ false = sym f ∙ y in
         rw (e, c) (ap₂ (λ (m : ℕ) (u : Answer). result (reply m u 0 (countedBy s t)) x) (sym (pick-false _ _ _ v)) (sym (pick-false _ _ _ v)) ∙ on-told (s .width) s i (areas n g k) t ran-alone asked not-idle room z)
+
+  -- a viewer's turn, taken apart from a list: it leaves both counts
+  module _ (d : Done) {x : Areas} (e : did d x ≡ didAs (s .width) true s i (areas n g k)) {b : Bool} (v : b ≡ views s i) (y : b ≡ true) where
+    abbrev viewed : Tally
+    viewed = openTally begun d
+
+    viewed-ran : ranOf s viewed x ≡ ranList (s .width) (i ∷ []) (run 0 (state s (areas n g k)) 1 0 0)
+    unfolding counted
+    viewed-ran = alone-ran viewed (entry-open (s .width) s begun i n g k refl (omega arith) alone-three alone-below refl e refl refl (views-so s i v y) alone-open)
+
+    pub view-six : {r : Reply} → r ≡ reply 6 Nothing 0 s → d .number ≡ 6 → result r x ≡ turn (s .width) s i (areas n g k)
+    unfolding openTally sixTally
+    view-six f z = one-six viewed viewed-ran refl f (ap (λ (u : Tally). u .number) (pick-true _ _ _ (eq-eqb _ _ z)))
+
+    pub view-told : {r : Reply} {o : Told} → r ≡ reply (o .number) (o .answer) 0 s → o ≡ toldBy (headAt (x .workers) i) → (d .«nodes_taken» ≡ s .«nodes_taken») × (d .«levels_taken» ≡ s .«levels_taken») → (d .number ≡ 6 → ⊥) → result r x ≡ turn (s .width) s i (areas n g k)
+    unfolding openTally nextTally counted
+    view-told f j c z =
+        let o : viewed ≡ nextTally begun d _ _ = pick-false _ _ _ (ne-eqb _ _ z) in
+        let p : viewed .«nodes_taken» ≡ s .«nodes_taken» = ap (λ (u : Tally). u .«nodes_taken») o ∙ c .0 in
+        let q : viewed .«levels_taken» ≡ s .«levels_taken» = ap (λ (u : Tally). u .«levels_taken») o ∙ c .1 in
+        let l : viewed .number ≡ 0 = ap (λ (u : Tally). u .number) o in
+        one-told viewed viewed-ran refl f j (sym (ap₂ (λ (a b : ℕ). counted s a b) p q)) (λ m. omega arith)
 
 -- with counts that are those of the settings, of a list as of a turn, the settings are the same
 pub same-counted : (s : Settings) (t : Tally) {b : Bool} → b ≡ sameCounts s t → b ≡ true → s ≡ countedBy s t

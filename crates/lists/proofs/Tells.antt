@@ -3,7 +3,7 @@
 use Prim.Native.Nat.{ℕ}
 use mathlib.Core.Path.{_≡_, refl, ap, sym, _∙_}
 use mathlib.Core.Logic.{_≢_}
-use mathlib.Core.Bool.{true}
+use mathlib.Core.Bool.{true, Bool}
 use native.Mathlib.Omega.{arith}
 use lib.Dec.{eqb}
 use borrow.Author.Tests.{eqb-true}
@@ -18,13 +18,14 @@ use Rattle.record.specs.Layout.{Record}
 use Rattle.rules.specs.Acts.{act}
 use Rattle.rules.specs.Asked.{question8}
 use Rattle.rules.specs.Operations.{lastOf}
-use Rattle.rules.proofs.Tells.{Said, says-open, says-new, says-found, Tells, act-tells}
+use Rattle.rules.proofs.Tells.{Said, says-open, says-new, says-found, says-absent, Tells, act-tells}
 use Rattle.lists.specs.Cut.{numberBy}
 
 not-full : {a : Answer} → Said a → a ≢ Full
 not-full says-open e = let z : _≡_ {A = ℕ} 0 1 = cc in omega arith
 not-full (says-new n) e = let z : _≡_ {A = ℕ} 0 1 = cc in omega arith
 not-full (says-found n) e = let z : _≡_ {A = ℕ} 0 1 = cc in omega arith
+not-full says-absent e = let z : _≡_ {A = ℕ} 0 1 = cc in omega arith
 
 -- an idle head with the answer's number 3 tells "full"
 tells-full : (h : Head) → eqb (kindNo (h .kind)) 0 ≡ true → h .answer ≡ 3 → lastOf h ≡ Full
@@ -41,7 +42,7 @@ number-zero h d =
     (λ e. refl)
 
 -- a worker with a call open
-pub act-number : (w : ℕ) (s : Settings) (r : Record) (m : Memory) → question8 r ≡ true → numberBy (act w s r m .record′ .head) ≡ 0
-act-number w s r m q =
-    let k : Tells (act w s r m) = act-tells w s r m q in
-    number-zero (act w s r m .record′ .head) (λ e. not-full (k .said) (sym (k .answer-is) ∙ e))
+pub act-number : (w : ℕ) (v : Bool) (s : Settings) (r : Record) (m : Memory) → question8 r ≡ true → numberBy (act w v s r m .record′ .head) ≡ 0
+act-number w v s r m q =
+    let k : Tells v (act w v s r m) = act-tells w v s r m q in
+    number-zero (act w v s r m .record′ .head) (λ e. not-full (k .said) (sym (k .answer-is) ∙ e))

@@ -1,7 +1,7 @@
 -- One law for each way through the functions of a list of turns, and through what refuses a turn: its premises are what the callees give and the tests.
 -- Relies on the code's cut, on what ties it to the definition, and on that questions 1 to 3 stay answered yes.
 use Prim.Native.Nat.{ℕ, zero, suc, _+_, _*_, _-_, _≤_, _<_}
-use mathlib.Core.Path.{_≡_, refl, sym, ap, subst, _∙_}
+use mathlib.Core.Path.{_≡_, refl, sym, ap, ap₂, subst, _∙_}
 use mathlib.Core.Logic.{_≢_}
 use mathlib.Core.Bool.{Bool, true, false, not}
 use mathlib.Core.List.{List, [], _∷_}
@@ -9,14 +9,14 @@ use native.Mathlib.Nat.{add-zero}
 use native.Mathlib.Numerals.{add-one}
 use native.Mathlib.Decide.{ℕ-discrete}
 use native.Mathlib.Omega.{arith}
-use lib.Dec.{eqb, ltb, leb}
+use lib.Dec.{eqb, ltb}
 use lib.ListN.{length, getD, take, drop, drop-of-length-le}
 use lib.Seq.{take-all, drop-cons}
-use borrow.Author.Tests.{eq-eqb, ne-eqb, eqb-true, eqb-false, lt-ltb, ltb-true}
+use borrow.Author.Tests.{eq-eqb, ne-eqb, eqb-true, eqb-false, lt-ltb, lt-leb, ltb-true}
 use Rattle.words.specs.Choice.{pick, both, every, asks, firstNo}
 use Rattle.words.proofs.Choice.{true-false, pick-both, pick-true, pick-false, both-left, both-right}
 use Rattle.settings.specs.Cut.{counted, firstThree, Sized}
-use Rattle.settings.specs.Sizes.{workerWords}
+use Rattle.settings.specs.Sizes.{workerWords, views}
 use Rattle.settings.specs.declared.Settings.{Settings}
 use Rattle.settings.proofs.Laws.{three-yes, sized}
 use Rattle.areas.specs.Memory.{Areas, areas, memory}
@@ -26,6 +26,7 @@ use Rattle.record.specs.declared.Exchange.{Exchange}
 use Rattle.record.specs.declared.Exchange.the-variants.{None, Failed}
 use Rattle.record.specs.declared.Exchange.the-variants as exchange
 use Rattle.record.specs.Kinds.{kindNo}
+use Rattle.record.specs.Fits.{answerFits}
 use Rattle.record.specs.Layout.{headAt, load}
 use Rattle.rules.specs.Asked.{question4, question4All, question7, question8}
 use Rattle.rules.specs.Operations.{Result, result, reply, refused, unlessRefused, recordOf, turn}
@@ -41,7 +42,7 @@ use Rattle.rules.proofs.Exchanges.{one-exchange}
 use Rattle.rules.proofs.Entries.{eight-idle}
 use Rattle.table.specs.Cut.{firstFour}
 use Rattle.table.proofs.Questions.{both-zero}
-use Rattle.turns.specs.Cut.{turnHere, turnDone, Did, did, didOf, didHere}
+use Rattle.turns.specs.Cut.{turnHere, turnDone, Did, did, didOf, didAs}
 use Rattle.turns.specs.declared.Done.{Done}
 use Rattle.turns.proofs.Ways as below
 use Rattle.turns.proofs.Ways.{three-of, three-inside, here-idle, here-turn, four-yes}
@@ -56,13 +57,13 @@ of-three w s n g k y = simp (y .one, y .two, y .three)
 
 -- the tally after an entry
 module _ (t : Tally) where
-  pub idle-skipped : (v : ℕ) {b : Bool} → b ≡ leb v 3 → b ≡ true → t ≡ idleTally t v
+  pub idle-skipped : (looks : Bool) (v : ℕ) {b : Bool} → b ≡ answerFits looks v → b ≡ true → t ≡ idleTally looks t v
   unfolding idleTally
-  idle-skipped v e y = sym (pick-true _ _ _ (sym e ∙ y))
+  idle-skipped looks v e y = sym (pick-true _ _ _ (sym e ∙ y))
 
-  pub idle-spoiled : (v : ℕ) {u : Tally} {b : Bool} → u ≡ sixTally t → b ≡ leb v 3 → b ≡ false → u ≡ idleTally t v
+  pub idle-spoiled : (looks : Bool) (v : ℕ) {u : Tally} {b : Bool} → u ≡ sixTally t → b ≡ answerFits looks v → b ≡ false → u ≡ idleTally looks t v
   unfolding idleTally
-  idle-spoiled v a e y = a ∙ sym (pick-false _ _ _ (sym e ∙ y))
+  idle-spoiled looks v a e y = a ∙ sym (pick-false _ _ _ (sym e ∙ y))
 
   pub open-six : (d : Done) {u : Tally} → u ≡ sixTally t → d .number ≡ 6 → u ≡ openTally t d
   unfolding openTally
@@ -88,11 +89,11 @@ module _ (t : Tally) where
 -- the settings of a turn that leaves the sizes, by its counts
 counted-is : (s n : Settings) → SameSizes s n → counted s (n .«nodes_taken») (n .«levels_taken») ≡ n
 unfolding counted
-counted-is s n k = rw (← k .width-is, ← k .workers-is, ← k .limit-is, ← k .nodes-is) refl
+counted-is s n k = rw (← k .width-is, ← k .workers-is, ← k .limit-is, ← k .nodes-is, ← k .viewers-is) refl
 
 same-sizes : (s n : Settings) (i g : ℕ) → SameSizes (counted s i g) n → SameSizes s n
 unfolding counted
-same-sizes s n i g y = record { width-is = y .width-is; workers-is = y .workers-is; limit-is = y .limit-is; nodes-is = y .nodes-is }
+same-sizes s n i g y = record { width-is = y .width-is; workers-is = y .workers-is; limit-is = y .limit-is; nodes-is = y .nodes-is; viewers-is = y .viewers-is }
 
 -- a worker with a call open is not refused by 8
 pub not-eight : (w : ℕ) (s : Settings) (i : ℕ) (n g k : List ℕ) → kindNo (headAt k i .kind) ≢ 0 → turn w s i (areas n g k) .reply .number ≢ 8
@@ -128,26 +129,30 @@ module _ (w : ℕ) (s : Settings) (t : Tally) (i : ℕ) (n g k : List ℕ) (z : 
   by-six y e = e ∙ sym (entry-by ∙ pick-true _ _ _ (eq-eqb _ _ y))
 
   -- an idle worker
-  pub entry-idle : {u : Tally} {b : Bool} {v : ℕ} → u ≡ idleTally t v → v ≡ headAt k i .answer → b ≡ eqb (kindNo (headAt k i .kind)) 0 → b ≡ true → ranOf s u (areas n g k) ≡ ranEntry w (ranOf s t (areas n g k)) i
-  unfolding idleTally ranBy
-  entry-idle {u} {b} {v} f e q y = by (leb v 3) refl (sym (here-idle w now i n g k e q y) ∙ turn-is)
+  pub entry-idle : {u : Tally} {looks b : Bool} {v : ℕ} → u ≡ idleTally looks t v → looks ≡ views s i → v ≡ headAt k i .answer → b ≡ eqb (kindNo (headAt k i .kind)) 0 → b ≡ true → ranOf s u (areas n g k) ≡ ranEntry w (ranOf s t (areas n g k)) i
+  unfolding idleTally ranBy views counted
+  entry-idle {u} {looks} {b} {v} f a e q y = by (answerFits (views s i) v) refl (sym (here-idle w now i n g k e q y) ∙ turn-is)
     where
-      by : (d : Bool) → leb v 3 ≡ d → pick (leb v 3) (refused 8 now (areas n g k)) (refused 6 now (areas n g k)) ≡ its → ranOf s u (areas n g k) ≡ ranEntry w (ranOf s t (areas n g k)) i
+      fit : {d : Bool} → answerFits (views s i) v ≡ d → answerFits looks v ≡ d
+      fit d = ap (λ (x : Bool). answerFits x v) a ∙ d
+
+      by : (d : Bool) → answerFits (views s i) v ≡ d → pick (answerFits (views s i) v) (refused 8 now (areas n g k)) (refused 6 now (areas n g k)) ≡ its → ranOf s u (areas n g k) ≡ ranEntry w (ranOf s t (areas n g k)) i
       by true d x =
           let m : its .reply .number ≡ 8 = ap (λ (o : Result). o .reply .number) (sym x ∙ pick-true _ _ _ d) in
-          ap (λ (o : Tally). ranOf s o (areas n g k)) (f ∙ pick-true _ _ _ d)
+          ap (λ (o : Tally). ranOf s o (areas n g k)) (f ∙ pick-true _ _ _ (fit d))
           ∙ sym (entry-by ∙ pick-false _ _ _ (ne-eqb (its .reply .number) 6 (λ o. omega arith)) ∙ pick-true _ _ _ (eq-eqb _ _ m))
       by false d x =
           let m : its .reply .number ≡ 6 = ap (λ (o : Result). o .reply .number) (sym x ∙ pick-false _ _ _ d) in
-          by-six m (ap (λ (o : Tally). ranOf s o (areas n g k)) (f ∙ pick-false _ _ _ d))
+          by-six m (ap (λ (o : Tally). ranOf s o (areas n g k)) (f ∙ pick-false _ _ _ (fit d)))
 
-  pub entry-open : {u : Tally} {d : Done} {b : Areas} {m : Settings} → u ≡ openTally t d → did d b ≡ didHere (m .width) m i (areas n g k) → m ≡ now → s .width ≡ w → 1 ≤ kindNo (headAt k i .kind) → ranOf s u b ≡ ranEntry w (ranOf s t (areas n g k)) i
-  unfolding openTally ranBy didOf turnDone exchangeAt counted
-  entry-open {u} {d} {b} {m} f e p v o = by (ℕ-discrete (its .reply .number) 6)
+  pub entry-open : {u : Tally} {d : Done} {b : Areas} {m : Settings} {looks : Bool} → u ≡ openTally t d → did d b ≡ didAs (m .width) looks m i (areas n g k) → m ≡ now → s .width ≡ w → views s i ≡ looks → 1 ≤ kindNo (headAt k i .kind) → ranOf s u b ≡ ranEntry w (ranOf s t (areas n g k)) i
+  unfolding openTally ranBy didOf turnDone exchangeAt counted views
+  entry-open {u} {d} {b} {m} {looks} f e p v a o = by (ℕ-discrete (its .reply .number) 6)
     where
       did-is : did d b ≡ did (turnDone (its .reply .number) (its .reply .settings) made) (its .areas)
       did-is =
-          e ∙ ap (λ (y : Settings). didHere (y .width) y i (areas n g k)) p ∙ ap (λ (y : ℕ). didHere y now i (areas n g k)) v
+          e ∙ ap (λ (y : Settings). didAs (y .width) looks y i (areas n g k)) p ∙ ap (λ (y : ℕ). didAs y looks now i (areas n g k)) v
+          ∙ ap (λ (y : Bool). didAs w y now i (areas n g k)) (sym a)
           ∙ ap (didOf (exchangeOf w (recordOf (areas n g k) i) (memory n g))) turn-is
 
       by : Dec (its .reply .number ≡ 6) → ranOf s u b ≡ ranEntry w (ranOf s t (areas n g k)) i
@@ -163,13 +168,22 @@ module _ (w : ℕ) (s : Settings) (t : Tally) (i : ℕ) (n g k : List ℕ) (z : 
           ∙ ap (λ (v : Settings). run 0 (state v (its .areas)) (t .left - 1) (t .done + doneIn made) (t .failed + failedIn made)) (counted-is s (its .reply .settings) q)
           ∙ sym (entry-by ∙ pick-false _ _ _ (ne-eqb (its .reply .number) 6 y) ∙ pick-false _ _ _ (ne-eqb (its .reply .number) 8 (not-eight w now i n g k (λ z. omega arith))))
 
+-- without viewers no worker is one
+pub none-views : (s : Settings) (i : ℕ) → i < s .workers → s .viewers ≡ 0 → false ≡ views s i
+unfolding views
+none-views s i l z = sym (lt-leb (s .workers - s .viewers) i (omega arith))
+
+-- what was asked of the settings
+pub views-so : (s : Settings) (i : ℕ) {v b : Bool} → v ≡ views s i → v ≡ b → views s i ≡ b
+views-so s i e y = sym e ∙ y
+
 -- a turn of an idle worker
-module _ (v : ℕ) {b : Bool} (e : b ≡ leb v 3) where
-  pub idle-eight : b ≡ true → 8 ≡ idleNumber v
+module _ (looks : Bool) (v : ℕ) {b : Bool} (e : b ≡ answerFits looks v) where
+  pub idle-eight : b ≡ true → 8 ≡ idleNumber looks v
   unfolding idleNumber
   idle-eight y = sym (pick-true _ _ _ (sym e ∙ y))
 
-  pub idle-six : b ≡ false → 6 ≡ idleNumber v
+  pub idle-six : b ≡ false → 6 ≡ idleNumber looks v
   unfolding idleNumber
   idle-six y = sym (pick-false _ _ _ (sym e ∙ y))
 
@@ -178,9 +192,9 @@ module _ (w : ℕ) (s : Settings) (i : ℕ) (n g k : List ℕ) where
   abbrev four : ℕ
   four = firstFour w s i (length n) (length g) (length k)
 
-  pub refused-idle : {r v q : ℕ} {b : Bool} → r ≡ idleNumber v → v ≡ headAt k i .answer → b ≡ eqb (kindNo (headAt k i .kind)) 0 → b ≡ true → q ≡ four → q ≡ 0 → r ≡ refusedTurn w s i (areas n g k)
+  pub refused-idle : {r v q : ℕ} {looks b : Bool} → r ≡ idleNumber looks v → looks ≡ views s i → v ≡ headAt k i .answer → b ≡ eqb (kindNo (headAt k i .kind)) 0 → b ≡ true → q ≡ four → q ≡ 0 → r ≡ refusedTurn w s i (areas n g k)
   unfolding refusedTurn
-  refused-idle f e o y p z = f ∙ ap idleNumber e ∙ sym (pick-true _ _ _ (eq-eqb _ _ (sym p ∙ z)) ∙ pick-true _ _ _ (sym o ∙ y))
+  refused-idle f a e o y p z = f ∙ ap₂ idleNumber a e ∙ sym (pick-true _ _ _ (eq-eqb _ _ (sym p ∙ z)) ∙ pick-true _ _ _ (sym o ∙ y))
 
   pub refused-none : {q : ℕ} {b : Bool} → b ≡ eqb (kindNo (headAt k i .kind)) 0 → b ≡ false → q ≡ four → q ≡ 0 → 0 ≡ refusedTurn w s i (areas n g k)
   unfolding refusedTurn
@@ -191,9 +205,9 @@ module _ (w : ℕ) (s : Settings) (i : ℕ) (n g k : List ℕ) where
   refused-four p z = p ∙ sym (pick-false _ _ _ (ne-eqb _ _ (λ y. z (p ∙ y))))
 
   -- a turn that is refused so
-  idle-refused : four ≡ 0 → eqb (kindNo (headAt k i .kind)) 0 ≡ true → refused (idleNumber (headAt k i .answer)) s (areas n g k) ≡ turn w s i (areas n g k)
+  idle-refused : four ≡ 0 → eqb (kindNo (headAt k i .kind)) 0 ≡ true → refused (idleNumber (views s i) (headAt k i .answer)) s (areas n g k) ≡ turn w s i (areas n g k)
   unfolding idleNumber pick
-  idle-refused z y = by (leb (headAt k i .answer) 3) ∙ sym (here-idle w s i n g k refl refl y) ∙ here-turn w s i n g k refl z
+  idle-refused z y = by (answerFits (views s i) (headAt k i .answer)) ∙ sym (here-idle w s i n g k refl refl y) ∙ here-turn w s i n g k refl z
     where
       by : (d : Bool) → refused (pick d 8 6) s (areas n g k) ≡ pick d (refused 8 s (areas n g k)) (refused 6 s (areas n g k))
       by true = refl
@@ -205,7 +219,7 @@ module _ (w : ℕ) (s : Settings) (i : ℕ) (n g k : List ℕ) where
     where
       by : (x : Bool) → eqb four 0 ≡ x → (y : Bool) → eqb (kindNo (headAt k i .kind)) 0 ≡ y → result r (areas n g k) ≡ turn w s i (areas n g k)
       by true x true y =
-          let v : q ≡ idleNumber (headAt k i .answer) = e ∙ pick-true _ _ _ x ∙ pick-true _ _ _ y in
+          let v : q ≡ idleNumber (views s i) (headAt k i .answer) = e ∙ pick-true _ _ _ x ∙ pick-true _ _ _ y in
           rw (a, v) (idle-refused (eqb-true _ _ x) y)
       by true x false y = absurd (z (e ∙ pick-true _ _ _ x ∙ pick-false _ _ _ y))
       by false x y v = below.turn-refused w s i n g k a (e ∙ pick-false _ _ _ x) z
@@ -217,7 +231,7 @@ module _ (w : ℕ) (s : Settings) (i : ℕ) (n g k : List ℕ) where
 
   pub turn-open : refusedTurn w s i (areas n g k) ≡ 0 → kindNo (headAt k i .kind) ≢ 0
   unfolding refusedTurn idleNumber pick
-  turn-open e z = by (leb (headAt k i .answer) 3) (sym (pick-true _ (idleNumber (headAt k i .answer)) 0 (eq-eqb _ _ z)) ∙ both-zero (four) _ e .1)
+  turn-open e z = by (answerFits (views s i) (headAt k i .answer)) (sym (pick-true _ (idleNumber (views s i) (headAt k i .answer)) 0 (eq-eqb _ _ z)) ∙ both-zero (four) _ e .1)
     where
       by : (d : Bool) → _≡_ {A = ℕ} (pick d 8 6) 0 → ⊥
       by true y = omega arith
@@ -240,6 +254,10 @@ module _ (s : Settings) (t : Tally) (i n g k : ℕ) where
   pub entry-sized : {m : Settings} → m ≡ countedBy s t → firstThree (s .width) (countedBy s t) n g k ≡ 0 → Sized m
   unfolding counted
   entry-sized e f = rw e (sized (countedBy s t) n g k f)
+
+  pub entry-viewers : firstThree (s .width) (countedBy s t) n g k ≡ 0 → s .viewers ≤ s .workers
+  unfolding counted
+  entry-viewers f = sized (countedBy s t) n g k f .ranges .viewers
 
   pub entry-inside : firstThree (s .width) (countedBy s t) n g k ≡ 0 → i < s .workers → workerWords * i + workerWords ≤ k
   unfolding counted

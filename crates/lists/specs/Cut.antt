@@ -3,10 +3,11 @@
 use Prim.Native.Nat.{ℕ, _+_, _-_}
 use mathlib.Core.Bool.{Bool}
 use mathlib.Core.List.{List, [], _∷_}
-use lib.Dec.{eqb, leb}
+use lib.Dec.{eqb}
 use lib.ListN.{length}
 use Rattle.words.specs.Choice.{pick, both}
 use Rattle.settings.specs.Cut.{counted}
+use Rattle.settings.specs.Sizes.{views}
 use Rattle.settings.specs.declared.Settings.{Settings}
 use Rattle.areas.specs.Memory.{Areas}
 use Rattle.record.specs.declared.Answer.the-variants.{Nothing}
@@ -14,6 +15,7 @@ use Rattle.record.specs.declared.Exchange.{Exchange}
 use Rattle.record.specs.declared.Head.{Head}
 use Rattle.record.specs.declared.Reply.{Reply}
 use Rattle.record.specs.Kinds.{kindNo}
+use Rattle.record.specs.Fits.{answerFits}
 use Rattle.record.specs.Layout.{headAt}
 use Rattle.rules.specs.Operations.{Result, result, reply, turn, lastOf}
 use Rattle.rules.specs.Lists.{State, state, after}
@@ -70,12 +72,12 @@ sameCounts s t = both (eqb (t .«nodes_taken») (s .«nodes_taken»)) (eqb (t .�
 abbrev pub tally : ℕ → ℕ → ℕ → ℕ → ℕ → ℕ → Tally
 tally n i g l d f = record { number = n; «nodes_taken» = i; «levels_taken» = g; left = l; done = d; failed = f }
 
--- the tally after a 6, after an idle worker's entry, after a turn that was done, and after any turn of a worker with a call open
+-- the tally after a 6, after an idle worker's entry (v: it is a viewer), after a turn that was done, and after any turn of a worker with a call open
 abbrev pub sixTally : Tally → Tally
 sixTally t = tally 6 (t .«nodes_taken») (t .«levels_taken») (t .left) (t .done) (t .failed)
 
-unfoldable pub idleTally : Tally → ℕ → Tally
-idleTally t answer = pick (leb answer 3) t (sixTally t)
+unfoldable pub idleTally : Bool → Tally → ℕ → Tally
+idleTally v t answer = pick (answerFits v answer) t (sixTally t)
 
 abbrev pub nextTally : Tally → Done → ℕ → ℕ → Tally
 nextTally t d done failed = tally 0 (d .«nodes_taken») (d .«levels_taken») (t .left - 1) done failed
@@ -83,9 +85,9 @@ nextTally t d done failed = tally 0 (d .«nodes_taken») (d .«levels_taken») (
 unfoldable pub openTally : Tally → Done → Tally
 openTally t d = pick (eqb (d .number) 6) (sixTally t) (nextTally t d (t .done + doneIn (d .exchange)) (t .failed + failedIn (d .exchange)))
 
--- the number of a turn of an idle worker, by the number of its last answer
-unfoldable pub idleNumber : ℕ → ℕ
-idleNumber v = pick (leb v 3) 8 6
+-- the number of a turn of an idle worker (v: it is a viewer), by the number of its last answer
+unfoldable pub idleNumber : Bool → ℕ → ℕ
+idleNumber v answer = pick (answerFits v answer) 8 6
 
 -- the number of a turn that was done, as its worker's head tells it; the answer is that of the head
 unfoldable pub numberBy : Head → ℕ
@@ -103,7 +105,7 @@ unfoldable pub refusedTurn : ℕ → Settings → ℕ → Areas → ℕ
 refusedTurn w s i a =
     let q = firstFour w s i (length (a .nodes)) (length (a .levels)) (length (a .workers)) in
     let h = headAt (a .workers) i in
-    pick (eqb q 0) (pick (eqb (kindNo (h .kind)) 0) (idleNumber (h .answer)) 0) q
+    pick (eqb q 0) (pick (eqb (kindNo (h .kind)) 0) (idleNumber (views s i) (h .answer)) 0) q
 
 -- what a list reports where it is tallied so, with its settings then
 abbrev pub listed : ℕ → Tally → Settings → Areas → Report

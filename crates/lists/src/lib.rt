@@ -1,12 +1,13 @@
 // The parts of a list of turns with a limit and of one turn, of which the C interface is made; one turn as a public operation, for the text program.
 // Relies on turns for the turn of a worker, on settings and table for the questions that are asked before.
 ghost use mathlib.Core.Path.{_≡_};
-ghost use mathlib.Core.Bool.{true};
+ghost use mathlib.Core.Bool.{true, false};
 ghost use mathlib.Core.List.{_∷_};
 ghost use Prim.Native.Nat.{_+_, _-_, _≤_, _<_};
 ghost use lib.Dec.{ltb};
 ghost use lib.ListN.{length};
 ghost use Rattle.words.specs.Choice.{every, firstNo};
+ghost use Rattle.settings.specs.Sizes.{views};
 ghost use Rattle.settings.specs.Cut.{firstThree};
 ghost use Rattle.areas.specs.Memory.{areas};
 ghost use Rattle.record.specs.Kinds.{kindNo};
@@ -29,8 +30,10 @@ use table::refused_worker;
 use table::replied;
 use turns::Done;
 use turns::open_here;
+use turns::view_here;
 use words::and;
 use words::eq;
+use words::le;
 use words::lt;
 
 // Where a list of turns stands: 0 or 6, nodes taken, levels taken, the turns that may still be done, and the exchanges done and failed. A turn changes no
@@ -65,10 +68,14 @@ fn ended_six(t: Tally) -> Tally
 }
 
 // An entry whose worker is idle, by the number of its last answer: it is skipped, or its record does not fit.
-fn idle_entry(t: Tally, answer: u32) -> Tally
-    ensures { λ u. ⌜ u ≡ idleTally t answer ⌝ }
+fn idle_entry(v: bool, t: Tally, answer: u32) -> Tally
+    ensures { λ u. ⌜ u ≡ idleTally v t answer ⌝ }
 {
-    if idle_fits(answer) { t } else { ended_six(t) }
+    if idle_fits(v, answer) {
+        t
+    } else {
+        ended_six(t)
+    }
 }
 
 // The tally after a turn that was done, with the exchanges counted.
@@ -104,7 +111,7 @@ fn tallied(t: Tally, d: Done) -> Tally
     }
 }
 
-// An entry whose worker has a call open.
+// An entry whose worker is no viewer and has a call open.
 fn open_entry(
     s: Settings,
     t: Tally,
@@ -119,11 +126,25 @@ fn open_entry(
     requires { ⌜ firstThree (s .width) (countedBy s t) (length (now nodes)) (length (now levels)) (length (now workers)) ≡ 0 ⌝ }
     requires { ⌜ i < s .workers ⌝ }
     requires { ⌜ 1 ≤ kindNo (headAt (now workers) i .kind) ⌝ }
+    requires { ⌜ views s i ≡ false ⌝ }
     ensures { λ u. ⌜ ranOf s u (areas (now (nodes .exit)) (now (levels .exit)) (now (workers .exit))) ≡ ranEntry (s .width) (ranOf s t (areas (now (nodes .entry)) (now (levels .entry)) (now (workers .entry)))) i ⌝ }
 {
     let n = s.with_counts(t.nodes_taken, t.levels_taken);
     let d = open_here(n, i, nodes, levels, workers);
     tallied(t, d)
+}
+
+// Worker i is a viewer, of settings in range. Most tables have no viewer, so that is asked first.
+fn views_of(s: Settings, i: u32) -> bool
+    requires { ⌜ i < s .workers ⌝ }
+    requires { ⌜ s .viewers ≤ s .workers ⌝ }
+    ensures { λ r. ⌜ r ≡ views s i ⌝ }
+{
+    if s.viewers == 0 {
+        false
+    } else {
+        le(s.workers - s.viewers, i)
+    }
 }
 
 // One entry of a list of turns that goes on.
@@ -143,9 +164,15 @@ fn entry(
     ensures { λ u. ⌜ ranOf s u (areas (now (nodes .exit)) (now (levels .exit)) (now (workers .exit))) ≡ ranEntry (s .width) (ranOf s t (areas (now (nodes .entry)) (now (levels .entry)) (now (workers .entry)))) i ⌝ }
 {
     if idle_at(workers, i) {
-        idle_entry(t, answer_at(workers, i))
+        idle_entry(views_of(s, i), t, answer_at(workers, i))
     } else {
-        open_entry(s, t, i, nodes, levels, workers)
+        if views_of(s, i) {
+            let n = s.with_counts(t.nodes_taken, t.levels_taken);
+            let d = view_here(n, i, nodes, levels, workers);
+            tallied(t, d)
+        } else {
+            open_entry(s, t, i, nodes, levels, workers)
+        }
     }
 }
 
@@ -275,11 +302,11 @@ pub fn turn_told(workers: &[u32], i: u32) -> Told
     }
 }
 
-// A turn of an idle worker is refused, by the number of its last answer.
-fn idle_number(answer: u32) -> u32
-    ensures { λ r. ⌜ r ≡ idleNumber answer ⌝ }
+// A turn of an idle worker is refused, by the number of its last answer; v says whether the worker is a viewer.
+fn idle_number(v: bool, answer: u32) -> u32
+    ensures { λ r. ⌜ r ≡ idleNumber v answer ⌝ }
 {
-    if idle_fits(answer) { 8 } else { 6 }
+    if idle_fits(v, answer) { 8 } else { 6 }
 }
 
 // The number that refuses a turn of worker i before its record is asked further, or 0: questions 1 to 4, and 8 or 6 of an idle worker.
@@ -289,7 +316,7 @@ pub fn refused_turn(s: Settings, i: u32, nodes: &[u32], levels: &[u32], workers:
     let q = refused_worker(s, i, nodes, levels, workers);
     if q == 0 {
         if idle_at(workers, i) {
-            idle_number(answer_at(workers, i))
+            idle_number(s.views(i), answer_at(workers, i))
         } else {
             0
         }

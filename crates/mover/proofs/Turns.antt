@@ -367,7 +367,7 @@ not-true false e = refl
 module _ (v : Mover) (s : Settings) (m : Memory) where
   abbrev pub GivesBy : Kind → Moved → Memory → Type 0
   GivesBy k r m′ =
-      Gives v s m r m′ (λ a os. both (isMoving k) (readsBy k (s .width) s (v .head) (a ∷ os) m)) (λ a os. actBy k (s .width) s (v .head) (a ∷ os) m)
+      Gives v s m r m′ (λ a os. both (isMoving k) (readsBy k (s .width) s (v .head) (a ∷ os) m)) (λ a os. actBy k (s .width) false s (v .head) (a ∷ os) m)
 
   pub turn-kind : (k : Kind) (r : Moved) (m′ : Memory) → GivesBy k r m′ → v .head .kind ≡ k → GivesBy (v .head .kind) r m′
   turn-kind k r m′ a e = subst (λ (x : Kind). GivesBy x r m′) (sym e) a

@@ -1,5 +1,6 @@
 // A moving worker by value: its head, of its innermost Move what a turn needs, the last node of the Move around that; a method for each moving kind.
 // Relies on steps for what searching and moving do alike, on rules for the definitions.
+ghost use mathlib.Core.Bool.{false};
 ghost use mathlib.Core.Path.{_≡_};
 ghost use mathlib.Core.List.{_∷_};
 ghost use Prim.Native.Nat.{_+_, _*_, _-_, _≤_};
@@ -765,7 +766,7 @@ impl Mover {
         requires { ⌜ Sized s ⌝ }
         requires { ⌜ self .inner .count ≤ maxLimit ⌝ }
         requires { ⌜ 1 ≤ self .moves ⌝ }
-        ensures { λ r. ⌜ Gives self s (memory (now (nodes .entry)) (now (levels .entry))) r (memory (now (nodes .exit)) (now (levels .exit))) (λ a os. both (isMoving (self .head .kind)) (readsBy (self .head .kind) (s .width) s (self .head) (a ∷ os) (memory (now (nodes .entry)) (now (levels .entry))))) (λ a os. actBy (self .head .kind) (s .width) s (self .head) (a ∷ os) (memory (now (nodes .entry)) (now (levels .entry)))) ⌝ }
+        ensures { λ r. ⌜ Gives self s (memory (now (nodes .entry)) (now (levels .entry))) r (memory (now (nodes .exit)) (now (levels .exit))) (λ a os. both (isMoving (self .head .kind)) (readsBy (self .head .kind) (s .width) s (self .head) (a ∷ os) (memory (now (nodes .entry)) (now (levels .entry))))) (λ a os. actBy (self .head .kind) (s .width) false s (self .head) (a ∷ os) (memory (now (nodes .entry)) (now (levels .entry)))) ⌝ }
     {
         let h = self.head;
         let k = h.kind;

@@ -15,7 +15,7 @@ use Rattle.words.specs.Choice.{pick}
 use Rattle.text.specs.Parts.{ascii, comma, lineEnd}
 use Rattle.printing.specs.Printing.{decimal, decimalIn, callBytes, bytesOf}
 use Rattle.printing.specs.declared.Printed.{Printed}
-use Rattle.printing.specs.declared.Printed.the-variants.{Nothing, Header, New, Found, Full, Refused, End}
+use Rattle.printing.specs.declared.Printed.the-variants.{Nothing, Header, New, Found, Full, Absent, Refused, End}
 
 -- put_bytes: no byte yet, one byte more, and all
 pub bytes-none : (o src : List ℕ) (at : ℕ) → take (at + 0) o ≡ take at o ++ take 0 src
@@ -111,6 +111,10 @@ pub pair-steps :
     → z ≡ y ++ n ++ (lineEnd ∷ []) → y ≡ x ++ m ++ (comma ∷ []) → x ≡ s → z ≡ s ++ m ++ (comma ∷ []) ++ n ++ (lineEnd ∷ [])
 pair-steps s m n a b d = simp (a, b, d)
 
+pub absent-steps : (i p : ℕ) {y z : List ℕ} → z ≡ y ++ (ascii ",absent,-" ++ (lineEnd ∷ [])) → y ≡ callBytes i p → z ≡ bytesOf (Absent i p)
+unfolding bytesOf
+absent-steps i p a b = simp (a, b, append-assoc)
+
 pub full-steps : (i p : ℕ) {y z : List ℕ} → z ≡ y ++ (ascii ",full,-" ++ (lineEnd ∷ [])) → y ≡ callBytes i p → z ≡ bytesOf (Full i p)
 unfolding bytesOf
 full-steps i p a b = simp (a, b, append-assoc)
@@ -140,6 +144,7 @@ short Header = omega arith
 short (New i p n) = simp length-append (omega (arith, call-short i p, decimal-short 4 n))
 short (Found i p n) = simp length-append (omega (arith, call-short i p, decimal-short 4 n))
 short (Full i p) = simp length-append (omega (arith, call-short i p))
+short (Absent i p) = simp length-append (omega (arith, call-short i p))
 short (Refused m n) = simp length-append (omega (arith, decimal-short 4 m, decimal-short 4 n))
 short (End m n) = simp length-append (omega (arith, decimal-short 4 m, decimal-short 4 n))
 

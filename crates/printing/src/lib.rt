@@ -7,13 +7,14 @@ ghost use lib.ListN.{length, take, drop};
 ghost use Rattle.text.specs.Parts.{comma, lineEnd};
 ghost use Rattle.printing.specs.Printing.{decimal, callBytes, bytesOf};
 
-// What is printed at once. New and Found: worker, pixel, node. Full: worker, pixel. Refused: line, number. End: nodes taken, levels taken.
+// What is printed at once. New and Found: worker, pixel, node. Full and Absent: worker, pixel. Refused: line, number. End: nodes taken, levels taken.
 pub enum Printed {
     Nothing,
     Header,
     New(u32, u32, u32),
     Found(u32, u32, u32),
     Full(u32, u32),
+    Absent(u32, u32),
     Refused(u32, u32),
     End(u32, u32),
 }
@@ -104,6 +105,14 @@ fn put_full(out: &mut [u8; 64], worker: u32, pixel: u32) -> usize
     put_bytes(out, a, b",full,-\n")
 }
 
+// The row of a call that ended absent.
+fn put_absent(out: &mut [u8; 64], worker: u32, pixel: u32) -> usize
+    ensures { λ r. ⌜ take r (now (out .exit)) ≡ bytesOf (Printed.Absent worker pixel) ⌝ }
+{
+    let a = put_call(out, worker, pixel);
+    put_bytes(out, a, b",absent,-\n")
+}
+
 // A word with a comma behind it, and two numbers.
 fn put_pair(out: &mut [u8; 64], word: &[u8], m: u32, n: u32) -> usize
     requires { ⌜ length (now word) ≤ 16 ⌝ }
@@ -124,6 +133,7 @@ pub fn spell(p: Printed, out: &mut [u8; 64]) -> usize
         Printed::New(worker, pixel, node) => put_row(out, worker, pixel, b",new,", node),
         Printed::Found(worker, pixel, node) => put_row(out, worker, pixel, b",found,", node),
         Printed::Full(worker, pixel) => put_full(out, worker, pixel),
+        Printed::Absent(worker, pixel) => put_absent(out, worker, pixel),
         Printed::Refused(line, number) => put_pair(out, b"refused,", line, number),
         Printed::End(nodes, levels) => put_pair(out, b"end,", nodes, levels),
     }

@@ -7,17 +7,18 @@ use mathlib.Core.List.{List, [], _∷_}
 use Prim.Native.Nat.{ℕ, zero, suc, _≤_}
 use native.Mathlib.Omega.{arith}
 use lib.Dec.{leb, eqb}
-use lib.ListN.{List·getD-eq-default, replicate}
+use lib.ListN.{List·getD-eq-default, getD, replicate}
 use borrow.Author.Tests.{eqb-true, ne-eqb, leb-true, leb-false}
 use denote.Enum.Declared.{tagOf}
 use types.Run.{OneOf}
-use Rattle.words.specs.Choice.{both, every}
+use Rattle.words.specs.Choice.{pick, both, every}
 use Rattle.words.proofs.Choice.{both-left, both-right}
 use Rattle.words.proofs.Table.{at}
 use Rattle.record.specs.declared.Kind.{Kind}
 use Rattle.record.specs.declared.Kind.the-variants.{Idle, Look, Take, Put, Read, Tail, TakeTail, Append, Level, Close, Follow, ChainHead, ChainNext, SetNext, SetLook, SetPut, SetRead, SetTail, SetAppend, SetLevel, SetClose, SetFollow, MoveEnd, Unknown}
-use Rattle.record.specs.declared.Answer.the-variants.{Nothing, New, Found, Full}
+use Rattle.record.specs.declared.Answer.the-variants.{Nothing, New, Found, Full, Absent}
 use Rattle.record.specs.Kinds.{kinds, kindOf, kindNo, answerOf}
+use Rattle.record.specs.Fits.{viewing, viewerTold}
 use Rattle.record.proofs.Kind.{the-type}
 
 -- a kind's number gives the kind again
@@ -69,11 +70,26 @@ number-zero n = by (leb n 22) refl
         let h : 23 ≤ n = leb-false _ _ e in
         ap (λ (k : Kind). eqb (kindNo k) 0) (sym (unknown h)) ∙ sym (ne-eqb n 0 (λ z. omega arith))
 
-pub answer-rest : (c n : ℕ) → (c ≡ 1 → ⊥) → (c ≡ 2 → ⊥) → (c ≡ 3 → ⊥) → Nothing ≡ answerOf c n
+pub answer-rest : (c n : ℕ) → (c ≡ 1 → ⊥) → (c ≡ 2 → ⊥) → (c ≡ 3 → ⊥) → (c ≡ 5 → ⊥) → Nothing ≡ answerOf c n
 unfolding answerOf
-answer-rest zero n p q r = refl
-answer-rest (suc c) n p q r =
-    let h : 4 ≤ suc c = omega arith in sym (List·getD-eq-default (Nothing ∷ New n ∷ Found n ∷ Full ∷ []) Nothing h)
+answer-rest c n p q r u = by c p q r u
+  where
+    by : (c : ℕ) → (c ≡ 1 → ⊥) → (c ≡ 2 → ⊥) → (c ≡ 3 → ⊥) → (c ≡ 5 → ⊥) → Nothing ≡ getD (Nothing ∷ New n ∷ Found n ∷ Full ∷ Nothing ∷ Absent ∷ []) c Nothing
+    by zero p q r u = refl
+    by (suc zero) p q r u = absurd (p refl)
+    by (suc (suc zero)) p q r u = absurd (q refl)
+    by (suc (suc (suc zero))) p q r u = absurd (r refl)
+    by (suc (suc (suc (suc zero)))) p q r u = refl
+    by (suc (suc (suc (suc (suc zero))))) p q r u = absurd (u refl)
+    by (suc (suc (suc (suc (suc (suc c)))))) p q r u = refl
+
+pub viewing-rest : (k : ℕ) → (k ≡ 1 → ⊥) → (k ≡ 4 → ⊥) → (k ≡ 5 → ⊥) → (k ≡ 10 → ⊥) → false ≡ viewing k
+unfolding viewing pick
+viewing-rest k p q r u = simp (ne-eqb k 1 p, ne-eqb k 4 q, ne-eqb k 5 r, ne-eqb k 10 u)
+
+pub told-rest : (a : ℕ) → (a ≡ 0 → ⊥) → (a ≡ 2 → ⊥) → (a ≡ 5 → ⊥) → false ≡ viewerTold a
+unfolding viewerTold pick
+told-rest a p q r = simp (ne-eqb a 0 p, ne-eqb a 2 q, ne-eqb a 5 r)
 
 -- a number from k on that is not k is past it
 pub past : {k n : ℕ} → k ≤ n → (n ≡ k → ⊥) → suc k ≤ n

@@ -1,7 +1,7 @@
 -- Laws of a worker's record in its words, over any digit width: what is stored is loaded again, other workers' words stay, words that are 0 are idle.
 -- Relies on Pieces for the head and the Moves, on Apart for the words of two workers.
 use mathlib.Core.Path.{_≡_, refl, ap, sym, _∙_}
-use mathlib.Core.Bool.{true}
+use mathlib.Core.Bool.{Bool, true, false}
 use mathlib.Core.List.{List, []}
 use Prim.Native.Nat.{ℕ, _+_, _*_, _≤_, _<_}
 use native.Mathlib.Omega.{arith}
@@ -15,7 +15,7 @@ use Rattle.record.specs.declared.Kind.the-variants.{Idle}
 use Rattle.record.specs.declared.Head.{Head}
 use Rattle.record.specs.Kinds.{kinds, kindOf, kindNo}
 use Rattle.record.specs.Layout.{Record, record′, headFrom, headList, workerPlace, headAt, movesAt, firstMoves, load, storeHead, storeMoves, store}
-use Rattle.record.specs.Fits.{fits, fitsBy}
+use Rattle.record.specs.Fits.{viewerTold, answerFits, fitsBy, fits}
 use Rattle.record.proofs.Apart.{Outside, before, after, cells-same, cells-all, room, apart}
 use Rattle.record.proofs.Pieces.{AllSized, first-same, length-storeMoves, moves-before, moves-outside, moves-back, length-storeHead, head-back, head-outside, head-of, count-of}
 
@@ -118,9 +118,10 @@ zero-idle l i e =
 pub zero-words : (l : List ℕ) (i : ℕ) → ((k : ℕ) → k < 10 → getD l (workerPlace i + k) 0 ≡ 0) → load l i ≡ idle
 zero-words l i h = zero-idle l i (cells-all l 0 (workerPlace i) 10 h)
 
-pub idle-fits : (w : ℕ) (s : Settings) → fits w s idle ≡ true
-unfolding fits fitsBy pick kindNo
-idle-fits w s = refl
+pub idle-fits : (w : ℕ) (v : Bool) (s : Settings) → fits w v s idle ≡ true
+unfolding fits fitsBy answerFits viewerTold pick kindNo
+idle-fits w true s = refl
+idle-fits w false s = refl
 
-pub zero-fits : (w : ℕ) (s : Settings) (l : List ℕ) (i : ℕ) → cells l (workerPlace i) 10 ≡ replicate 10 0 → fits w s (load l i) ≡ true
-zero-fits w s l i e = ap (λ (r : Record). fits w s r) (zero-idle l i e) ∙ idle-fits w s
+pub zero-fits : (w : ℕ) (v : Bool) (s : Settings) (l : List ℕ) (i : ℕ) → cells l (workerPlace i) 10 ≡ replicate 10 0 → fits w v s (load l i) ≡ true
+zero-fits w v s l i e = ap (λ (r : Record). fits w v s r) (zero-idle l i e) ∙ idle-fits w v s

@@ -1,6 +1,6 @@
 -- The ways through the functions that ask whether a record fits its layout, each from what the called functions give.
 -- Relies on Pieces for the number of Moves.
-use mathlib.Core.Path.{_≡_, refl, _∙_}
+use mathlib.Core.Path.{_≡_, refl, sym, _∙_}
 use mathlib.Core.Logic.{_≢_}
 use mathlib.Core.Bool.{Bool, true, false}
 use mathlib.Core.List.{List}
@@ -18,7 +18,7 @@ use Rattle.record.specs.declared.Head.{Head}
 use Rattle.record.specs.Kinds.{kindNo}
 use Rattle.record.specs.Layout.{headAt, movesAt, moveAt, firstMoves, load}
 use Rattle.record.proofs.Pieces.{length-first}
-use Rattle.record.specs.Fits.{onChain, hasNode, callFits, innerFits, outerFits, movesFit, movingFits, fitsBy, fits}
+use Rattle.record.specs.Fits.{onChain, hasNode, callFits, innerFits, outerFits, movesFit, movingFits, viewing, roleFits, viewerTold, answerFits, fitsBy, fits}
 
 module _ (k : ℕ) where
   pub chain-low : {b : Bool} → b ≡ leb 5 k → leb k 10 ≡ true → b ≡ onChain k
@@ -47,6 +47,24 @@ module _ (s : Settings) (k : ℕ) where
   pub inner-off : (c : ℕ) {b : Bool} → b ≡ eqb c 0 → hasNode k ≡ false → b ≡ innerFits s k c
   unfolding innerFits pick
   inner-off c a t = simp (a, t)
+
+-- role_fits and idle_fits: of a viewer, and of another worker
+module _ {v : Bool} where
+  pub role-on : (k : ℕ) {b : Bool} → b ≡ viewing k → v ≡ true → b ≡ roleFits v k
+  unfolding roleFits pick
+  role-on k a t = simp (a, t)
+
+  pub role-off : (k : ℕ) → v ≡ false → true ≡ roleFits v k
+  unfolding roleFits pick
+  role-off k t = simp t
+
+  pub told-on : (a : ℕ) {b : Bool} → b ≡ viewerTold a → v ≡ true → b ≡ answerFits v a
+  unfolding answerFits pick
+  told-on a c t = simp (c, t)
+
+  pub told-off : (a : ℕ) {b : Bool} → b ≡ leb a 3 → v ≡ false → b ≡ answerFits v a
+  unfolding answerFits pick
+  told-off a c t = simp (c, t)
 
 -- outer_fit: no Move yet, one more, and all
 module _ (w : ℕ) (s : Settings) (l : List ℕ) (i : ℕ) where
@@ -88,30 +106,45 @@ module _ (w : ℕ) (s : Settings) (k : ℕ) (l : List ℕ) (i : ℕ) where
   moving-many n t e = rw length-first (simp (← e, t))
 
 -- search_fits, move_fits and fits: the head h of worker i, with the number k of its kind
+-- another worker than a viewer may be at any kind
+role-any : (k : ℕ) → roleFits false k ≡ true
+unfolding roleFits pick
+role-any k = refl
+
 module _ (w : ℕ) (s : Settings) (l : List ℕ) (i : ℕ) {k : ℕ} {h : Head} where
   pub fits-search :
       {b x y : Bool} {m : ℕ}
       → b ≡ both x y → y ≡ eqb m 0 → m ≡ movesAt l i → x ≡ callFits s k h → k ≡ kindNo (h .kind) → h ≡ headAt l i → 1 ≤ kindNo (h .kind) → kindNo (h .kind) ≤ 10
-      → b ≡ fits w s (load l i)
-  unfolding fits fitsBy load pick
+      → b ≡ fits w false s (load l i)
+  unfolding fits fitsBy load pick both
   fits-search a b m c e f low high =
-      simp (a, b, m, c, ← f, ← e, ne-eqb k 0 (λ z. omega arith), le-leb k 10 (omega arith), length-first)
+      simp (a, b, m, c, ← f, ← e, ne-eqb k 0 (λ z. omega arith), le-leb k 10 (omega arith), role-any, length-first)
 
   pub fits-move :
       {b x y : Bool} {m : ℕ}
       → b ≡ both x y → y ≡ movingFits w s k (firstMoves l i m) → x ≡ callFits s k h → leb k 22 ≡ true → m ≡ movesAt l i → k ≡ kindNo (h .kind) → h ≡ headAt l i → 11 ≤ kindNo (h .kind)
-      → b ≡ fits w s (load l i)
-  unfolding fits fitsBy load pick
+      → b ≡ fits w false s (load l i)
+  unfolding fits fitsBy load pick both
   fits-move a b c t m e f low =
-      simp (a, b, c, ← m, ← f, ← e, ne-eqb k 0 (λ z. omega arith), lt-leb k 10 (omega arith), t)
+      simp (a, b, c, ← m, ← f, ← e, ne-eqb k 0 (λ z. omega arith), lt-leb k 10 (omega arith), role-any, t)
 
-  pub fits-unknown : leb k 22 ≡ false → k ≡ kindNo (h .kind) → h ≡ headAt l i → 11 ≤ kindNo (h .kind) → false ≡ fits w s (load l i)
-  unfolding fits fitsBy load pick
-  fits-unknown t e f low = simp (← f, ← e, ne-eqb k 0 (λ z. omega arith), lt-leb k 10 (omega arith), t)
+  pub fits-unknown : leb k 22 ≡ false → k ≡ kindNo (h .kind) → h ≡ headAt l i → 11 ≤ kindNo (h .kind) → false ≡ fits w false s (load l i)
+  unfolding fits fitsBy load pick both
+  fits-unknown t e f low = simp (← f, ← e, ne-eqb k 0 (λ z. omega arith), lt-leb k 10 (omega arith), role-any, t)
 
-  pub fits-idle : {b : Bool} → b ≡ leb (h .answer) 3 → eqb k 0 ≡ true → k ≡ kindNo (h .kind) → h ≡ headAt l i → b ≡ fits w s (load l i)
+module _ (w : ℕ) (v : Bool) (s : Settings) (l : List ℕ) (i : ℕ) {k : ℕ} {h : Head} where
+  pub fits-idle : {b : Bool} → b ≡ answerFits v (h .answer) → eqb k 0 ≡ true → k ≡ kindNo (h .kind) → h ≡ headAt l i → b ≡ fits w v s (load l i)
   unfolding fits fitsBy load pick
   fits-idle a t b c = simp (a, ← c, ← b, t)
+
+  -- an open call: its kind is one of its sort of worker, and the record fits as any other worker's
+  pub fits-role : {b z : Bool} → b ≡ fits w false s (load l i) → z ≡ roleFits v k → z ≡ true → (k ≡ 0 → ⊥) → k ≡ kindNo (h .kind) → h ≡ headAt l i → b ≡ fits w v s (load l i)
+  unfolding fits fitsBy load pick both
+  fits-role a y t n e f = a ∙ simp (← f, ← e, ne-eqb k 0 n, role-any, sym y ∙ t)
+
+  pub fits-no-role : {z : Bool} → z ≡ roleFits v k → z ≡ false → (k ≡ 0 → ⊥) → k ≡ kindNo (h .kind) → h ≡ headAt l i → false ≡ fits w v s (load l i)
+  unfolding fits fitsBy load pick both
+  fits-no-role y t n e f = simp (← f, ← e, ne-eqb k 0 n, sym y ∙ t)
 
 -- the number of a head's kind, from the tests that led on
 module _ (h : Head) {k : ℕ} where

@@ -43,15 +43,32 @@ movesFit s k (m ∷ ms) = both (innerFits s k (m .count)) (every (outerFits s) m
 unfoldable pub movingFits : ℕ → Settings → ℕ → List Move → Bool
 movingFits w s k ms = pick (leb (length ms) (maxMoves w)) (movesFit s k ms) false
 
+-- the kinds, by number, of a viewer's call: it "follows Look, Read, Tail and Follow"
+unfoldable pub viewing : ℕ → Bool
+viewing k = pick (eqb k 1) true (pick (eqb k 4) true (pick (eqb k 5) true (eqb k 10)))
+
+-- an open call of a viewer (v) is at one of these
+unfoldable pub roleFits : Bool → ℕ → Bool
+roleFits v k = pick v (viewing k) true
+
+-- the number of a viewer's last answer: none, found, absent
+unfoldable pub viewerTold : ℕ → Bool
+viewerTold a = pick (eqb a 0) true (pick (eqb a 2) true (eqb a 5))
+
+-- the number of an idle worker's last answer; that of another worker is none, new, found, full
+unfoldable pub answerFits : Bool → ℕ → Bool
+answerFits v a = pick v (viewerTold a) (leb a 3)
+
 -- "Does the record fit its layout": idle, its last answer; searching, no Move; moving, its Moves; another number is no kind
-unfoldable pub fitsBy : ℕ → Settings → ℕ → Record → Bool
-fitsBy w s k r =
+unfoldable pub fitsBy : ℕ → Bool → Settings → ℕ → Record → Bool
+fitsBy w v s k r =
     pick (eqb k 0)
-    (leb (r .head .answer) 3)
+    (answerFits v (r .head .answer))
+    (both (roleFits v k)
     (pick (leb k 10)
     (both (callFits s k (r .head)) (eqb (length (r .moves)) 0))
-    (pick (leb k 22) (both (callFits s k (r .head)) (movingFits w s k (r .moves))) false))
+    (pick (leb k 22) (both (callFits s k (r .head)) (movingFits w s k (r .moves))) false)))
 
--- "Does the record fit its layout"
-unfoldable pub fits : ℕ → Settings → Record → Bool
-fits w s r = fitsBy w s (kindNo (r .head .kind)) r
+-- "Does the record fit its layout", of a viewer or of another worker
+unfoldable pub fits : ℕ → Bool → Settings → Record → Bool
+fits w v s r = fitsBy w v s (kindNo (r .head .kind)) r

@@ -6,7 +6,7 @@ use lib.ListN.{getD}
 use Rattle.record.specs.declared.Kind.{Kind}
 use Rattle.record.specs.declared.Kind.the-variants.{Idle, Look, Take, Put, Read, Tail, TakeTail, Append, Level, Close, Follow, ChainHead, ChainNext, SetNext, SetLook, SetPut, SetRead, SetTail, SetAppend, SetLevel, SetClose, SetFollow, MoveEnd, Unknown}
 use Rattle.record.specs.declared.Answer.{Answer}
-use Rattle.record.specs.declared.Answer.the-variants.{Nothing, New, Found, Full, Open}
+use Rattle.record.specs.declared.Answer.the-variants.{Nothing, New, Found, Full, Open, Absent}
 
 -- The kinds by number: 0 idle, 1 to 10 searching ("Turns of a call for pixel K"), 11 to 22 moving ("Move").
 unfoldable pub kinds : List Kind
@@ -47,13 +47,14 @@ kindNo SetFollow = 21
 kindNo MoveEnd = 22
 kindNo Unknown = 23
 
--- An answer as numbers: none 0, new 1, found 2, full 3, open 4; and its node, 0 where it has none
+-- An answer as numbers: none 0, new 1, found 2, full 3, open 4, absent 5; and its node, 0 where it has none
 unfoldable pub answerNo : Answer → ℕ
 answerNo Nothing = 0
 answerNo (New n) = 1
 answerNo (Found n) = 2
 answerNo Full = 3
 answerNo Open = 4
+answerNo Absent = 5
 
 -- the node of an answer; 0 where it has none
 unfoldable pub answerNode : Answer → ℕ
@@ -62,7 +63,8 @@ answerNode (New n) = n
 answerNode (Found n) = n
 answerNode Full = 0
 answerNode Open = 0
+answerNode Absent = 0
 
--- the answer of a number 0 to 3 and a node
+-- the answer of a number 0 to 3 or 5 and a node; an idle worker's is not "open"
 unfoldable pub answerOf : ℕ → ℕ → Answer
-answerOf c n = getD (Nothing ∷ New n ∷ Found n ∷ Full ∷ []) c Nothing
+answerOf c n = getD (Nothing ∷ New n ∷ Found n ∷ Full ∷ Nothing ∷ Absent ∷ []) c Nothing

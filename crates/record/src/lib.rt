@@ -1,6 +1,7 @@
 // A worker's record: kinds of turn and answers with their numbers, and the head and the Moves in the worker's words.
 // Relies on words for blocks, on settings for sizes and the chain limit.
 ghost use mathlib.Core.Path.{_≡_};
+ghost use mathlib.Core.Bool.{false};
 ghost use Prim.Native.Nat.{_+_, _*_, _≤_};
 ghost use lib.Dec.{leb, eqb};
 ghost use lib.ListN.{length};
@@ -9,7 +10,7 @@ ghost use Rattle.settings.specs.Sizes.{maxLimit, workerWords, within};
 ghost use Rattle.words.specs.Digits.{DigitWidth};
 ghost use Rattle.record.specs.Kinds.{kindOf, kindNo, answerOf};
 ghost use Rattle.record.specs.Layout.{workerPlace, movePlace, headFrom, headList, headAt, movesAt, moveAt, firstMoves, load, storeHead, moveTo, newMove};
-ghost use Rattle.record.specs.Fits.{onChain, hasNode, callFits, innerFits, outerFits, movesFit, movingFits, fits};
+ghost use Rattle.record.specs.Fits.{onChain, hasNode, callFits, innerFits, outerFits, movesFit, movingFits, viewing, roleFits, viewerTold, answerFits, fits};
 use settings::Settings;
 use settings::last_depth;
 use settings::within;
@@ -48,13 +49,14 @@ pub enum Kind {
     Unknown,
 }
 
-// What an operation answers. Nothing: document 01's "none". Open: a call is open or goes on.
+// What an operation answers. Nothing: document 01's "none". Open: a call is open or goes on. Absent: a viewer's pixel is not placed.
 pub enum Answer {
     Nothing,
     New(u32),
     Found(u32),
     Full,
     Open,
+    Absent,
 }
 
 // What a turn's exchange came to. None: the turn makes no exchange.
@@ -163,6 +165,7 @@ pub fn answer_of(code: u32, node: u32) -> Answer
         1 => Answer::New(node),
         2 => Answer::Found(node),
         3 => Answer::Full,
+        5 => Answer::Absent,
         _ => Answer::Nothing,
     }
 }
@@ -374,26 +377,46 @@ fn moving_fits(s: Settings, k: u32, words: &[u32], i: u32, n: u32) -> bool
     }
 }
 
-// The record of worker i fits its layout, where its head h is that of a search.
+// The kinds of a viewer's call, by number.
+pub fn viewing(k: u32) -> bool
+    ensures { λ r. ⌜ r ≡ viewing k ⌝ }
+{
+    match k {
+        1 => true,
+        4 => true,
+        5 => true,
+        10 => true,
+        _ => false,
+    }
+}
+
+// An open call's kind is one of a viewer's, if v says that the worker is a viewer.
+fn role_fits(v: bool, k: u32) -> bool
+    ensures { λ r. ⌜ r ≡ roleFits v k ⌝ }
+{
+    if v { viewing(k) } else { true }
+}
+
+// The record of worker i, which is no viewer, fits its layout, where its head h is that of a search.
 pub fn search_fits(s: Settings, h: Head, words: &[u32], i: u32) -> bool
     requires { ⌜ s .limit ≤ maxLimit ⌝ }
     requires { ⌜ h ≡ headAt (now words) i ⌝ }
     requires { ⌜ 1 ≤ kindNo (h .kind) ⌝ }
     requires { ⌜ kindNo (h .kind) ≤ 10 ⌝ }
-    ensures { λ r. ⌜ r ≡ fits (s .width) s (load (now (words .entry)) i) ⌝ }
+    ensures { λ r. ⌜ r ≡ fits (s .width) false s (load (now (words .entry)) i) ⌝ }
 {
     let kind = h.kind;
     let k = kind_no(kind);
     and(call_fits(s, k, h), eq(moves_at(words, i), 0))
 }
 
-// The record of worker i fits its layout, where its head h is that of a Move or of no kind.
+// The same, where its head h is that of a Move or of no kind.
 pub fn move_fits(s: Settings, h: Head, words: &[u32], i: u32) -> bool
     requires { ⌜ DigitWidth (s .width) ⌝ }
     requires { ⌜ s .limit ≤ maxLimit ⌝ }
     requires { ⌜ h ≡ headAt (now words) i ⌝ }
     requires { ⌜ 11 ≤ kindNo (h .kind) ⌝ }
-    ensures { λ r. ⌜ r ≡ fits (s .width) s (load (now (words .entry)) i) ⌝ }
+    ensures { λ r. ⌜ r ≡ fits (s .width) false s (load (now (words .entry)) i) ⌝ }
 {
     let kind = h.kind;
     let k = kind_no(kind);
@@ -405,29 +428,61 @@ pub fn move_fits(s: Settings, h: Head, words: &[u32], i: u32) -> bool
     }
 }
 
-// An idle worker's record fits its layout, by the number of its last answer.
-pub fn idle_fits(answer: u32) -> bool
-    ensures { λ r. ⌜ r ≡ leb answer 3 ⌝ }
+// The last answers of a viewer, by number.
+fn viewer_told(a: u32) -> bool
+    ensures { λ r. ⌜ r ≡ viewerTold a ⌝ }
 {
-    answer <= 3
+    match a {
+        0 => true,
+        2 => true,
+        5 => true,
+        _ => false,
+    }
 }
 
-// The record of worker i with the head h fits its layout.
-pub fn fits(s: Settings, h: Head, words: &[u32], i: u32) -> bool
+// An idle worker's record fits its layout, by the number of its last answer.
+pub fn idle_fits(v: bool, answer: u32) -> bool
+    ensures { λ r. ⌜ r ≡ answerFits v answer ⌝ }
+{
+    if v {
+        viewer_told(answer)
+    } else {
+        le(answer, 3)
+    }
+}
+
+// The record of worker i with the head h, whose call is open, fits its layout, if its kind is one of its sort of worker.
+fn open_fits(s: Settings, h: Head, words: &[u32], i: u32) -> bool
     requires { ⌜ DigitWidth (s .width) ⌝ }
     requires { ⌜ s .limit ≤ maxLimit ⌝ }
     requires { ⌜ h ≡ headAt (now words) i ⌝ }
-    ensures { λ r. ⌜ r ≡ fits (s .width) s (load (now (words .entry)) i) ⌝ }
+    requires { ⌜ 1 ≤ kindNo (h .kind) ⌝ }
+    ensures { λ r. ⌜ r ≡ fits (s .width) false s (load (now (words .entry)) i) ⌝ }
+{
+    let kind = h.kind;
+    if kind_no(kind) <= 10 {
+        search_fits(s, h, words, i)
+    } else {
+        move_fits(s, h, words, i)
+    }
+}
+
+// The record of worker i with the head h fits its layout.
+pub fn fits(v: bool, s: Settings, h: Head, words: &[u32], i: u32) -> bool
+    requires { ⌜ DigitWidth (s .width) ⌝ }
+    requires { ⌜ s .limit ≤ maxLimit ⌝ }
+    requires { ⌜ h ≡ headAt (now words) i ⌝ }
+    ensures { λ r. ⌜ r ≡ fits (s .width) v s (load (now (words .entry)) i) ⌝ }
 {
     let kind = h.kind;
     let k = kind_no(kind);
     if k == 0 {
-        idle_fits(h.answer)
+        idle_fits(v, h.answer)
     } else {
-        if k <= 10 {
-            search_fits(s, h, words, i)
+        if role_fits(v, k) {
+            open_fits(s, h, words, i)
         } else {
-            move_fits(s, h, words, i)
+            false
         }
     }
 }

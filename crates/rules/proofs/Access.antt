@@ -1,5 +1,7 @@
 -- A turn makes one shared access, by kind.
 -- Relies on the definitions of the kinds.
+use mathlib.Core.Bool.{Bool}
+use Rattle.settings.specs.Sizes.{views}
 use Prim.Native.Nat.{ℕ, suc, _-_}
 use mathlib.Core.Path.{_≡_, refl}
 use mathlib.Core.Bool.{false}
@@ -33,7 +35,7 @@ use Rattle.rules.proofs.Dims.{base-pos}
 held : {n : ℕ} → eqb n 0 ≡ false → n ≡ suc (n - 1)
 held {n} e = let d = eqb-false n 0 e in omega arith
 
-module _ (w : ℕ) (s : Settings) (h : Head) (m : Memory) where
+module _ (w : ℕ) (looks : Bool) (s : Settings) (h : Head) (m : Memory) where
   abbrev By : Step → Type 0
   By t = Access w s h m (t .settings) (t .memory)
 
@@ -52,6 +54,10 @@ module _ (w : ℕ) (s : Settings) (h : Head) (m : Memory) where
   met-by : (c g word : ℕ) → By (searching.met s h c g word m)
   unfolding searching.met searching.metNode
   met-by c g word = pick-both By (isNode word) (λ e. pick-both By (eqb _ (h .pixel)) (λ q. still) (λ q. still)) (λ e. still)
+
+  viewed-by : (h′ : Head) → By (searching.viewed looks s h′ m)
+  unfolding searching.viewed
+  viewed-by h′ = pick-both By _ (λ e. still) (λ e. still)
 
   take-by : (k : Kind) → By (takeNode k s h m)
   unfolding takeNode withNode
@@ -73,14 +79,14 @@ module _ (w : ℕ) (s : Settings) (h : Head) (m : Memory) where
   unfolding moving.setNode moving.setLast
   set-by failed v os x i f = exchange-both By w h x _ _ _ m (λ e. access.cell x _ i refl refl) (λ e. f)
 
-  kind-by : (k : Kind) (ms : List Move) → By (actBy k w s h ms m)
+  kind-by : (k : Kind) (ms : List Move) → By (actBy k w looks s h ms m)
   unfolding actBy searching.entryOf moving.homeCell moving.setCellOf searching.look searching.take searching.put searching.read searching.readWord searching.tail searching.takeTail searching.append searching.level searching.close searching.follow searching.followWord moving.chainHead moving.chainNext moving.setNext moving.setLook moving.setPut moving.setRead moving.setReadWord moving.setMet moving.setTail moving.setAppend moving.setLevel moving.setClose moving.setFollow moving.setFollowWord moving.moveEnd
   kind-by Idle ms = still
-  kind-by Look ms = still
+  kind-by Look ms = viewed-by _
   kind-by Take ms = take-by Put
   kind-by Put ms = placed-by _ _ (picked _ _ _) (met-by _ _ _)
   kind-by Read ms = met-by _ _ _
-  kind-by Tail ms = still
+  kind-by Tail ms = viewed-by _
   kind-by TakeTail ms = take-by Append
   kind-by Append ms = placed-by _ (Next _) tt (met-by _ _ _)
   kind-by Level ms = level-by Close []
@@ -107,4 +113,4 @@ one-access w s i a =
     let h : Record = recordOf a i in
     pick-both P _
     (λ e. access.none refl refl)
-    (λ e. pick-both P _ (λ z. kind-by w s (h .head) (memoryOf a) (h .head .kind) (h .moves)) (λ z. access.none refl refl))
+    (λ e. pick-both P _ (λ z. kind-by w (views s i) s (h .head) (memoryOf a) (h .head .kind) (h .moves)) (λ z. access.none refl refl))

@@ -8,7 +8,7 @@ use native.Mathlib.Omega.{arith}
 use native.Mathlib.Numerals.{add-one}
 use Rattle.words.specs.Digits.{depths}
 use Rattle.words.proofs.Choice.{pick-true, pick-false}
-use Rattle.settings.specs.Sizes.{levelCount}
+use Rattle.settings.specs.Sizes.{levelCount, views}
 use Rattle.settings.specs.declared.Settings.{Settings}
 use Rattle.record.specs.declared.Answer.{Answer}
 use Rattle.record.specs.declared.Answer.the-variants.{Full, Open}
@@ -23,7 +23,7 @@ use Rattle.trie.proofs.Weights.{places, visit, errand, errands, frame, stretch}
 use Rattle.trie.proofs.Measure.{measure, measure-lt}
 use Rattle.trie.proofs.Whole.{Worker}
 use Rattle.rules.proofs.Dims.{dims, Width}
-use Rattle.rules.proofs.Invariant.{WorldOf, Rowing, goes, ends-new, ends-found, TurnOk, Fine}
+use Rattle.rules.proofs.Invariant.{WorldOf, Rowing, goes, ends-new, ends-found, TurnOk, Fine, ends-absent}
 use Rattle.rules.proofs.Idle.{acts-busy, busy-of}
 use Rattle.rules.proofs.AloneTurn.{TurnIs, carried, filled, turn-is, fine-taken}
 use Rattle.rules.proofs.Carried.{opening-done}
@@ -75,7 +75,7 @@ module _ (w i : ℕ) where
         r : Result
         r = turn w (x .settings) i (x .areas)
 
-        on : Ends n → (K : TurnOk w s₀ W ws i (act w (x .settings) (recordOf (x .areas) i) (memoryOf (x .areas)))) → r ≡ taken (act w (x .settings) (recordOf (x .areas) i) (memoryOf (x .areas))) i (x .areas .workers) → {v : Answer} → r .reply .answer ≡ v → Rowing W (K .world) (ws i) (K .worker) v → EndsAlone w (suc n) i x
+        on : Ends n → (K : TurnOk w s₀ W ws i (act w (views (x .settings) i) (x .settings) (recordOf (x .areas) i) (memoryOf (x .areas)))) → r ≡ taken (act w (views (x .settings) i) (x .settings) (recordOf (x .areas) i) (memoryOf (x .areas))) i (x .areas .workers) → {v : Answer} → r .reply .answer ≡ v → Rowing W (K .world) (ws i) (K .worker) v → EndsAlone w (suc n) i x
         on f K e a (goes E b z p q) =
             let F′ = subst (λ (u : Result). Fine w s₀ (after u) (K .world) (upd ws i (K .worker))) (sym e) (fine-taken F i here busy K) in
             let M = rw (upd-same ws i (K .worker)) at (F′ .records i here) in
@@ -84,6 +84,7 @@ module _ (w i : ℕ) where
             goes-further n x a (f _ _ _ F′ (acts-busy M z) (rw s (omega arith)))
         on f K e a (ends-new c p u g) = ends-now n x (ap goesOn a) (ap endingAnswer a)
         on f K e a (ends-found p q u g) = ends-now n x (ap goesOn a) (ap endingAnswer a)
+        on f K e a (ends-absent p u g) = ends-now n x (ap goesOn a) (ap endingAnswer a)
 
         by : Ends n → TurnIs F i here busy → EndsAlone w (suc n) i x
         by f (carried e K) = on f K e (ap (λ (u : Result). u .reply .answer) e) (K .rowing)

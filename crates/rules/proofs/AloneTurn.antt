@@ -1,5 +1,6 @@
 -- A turn of a worker that has a call open, in a state of the invariant: it is taken, or the call ends "full". No other number is given.
 -- Relies on that every kind of turn keeps the invariant, and on the questions that are answered yes.
+use Rattle.settings.specs.Sizes.{views}
 use Prim.Native.Nat.{ℕ, _<_}
 use mathlib.Core.Path.{_≡_, refl, _∙_}
 use mathlib.Core.Bool.{Bool, true, false}
@@ -20,6 +21,7 @@ use Rattle.rules.proofs.FineQuestions.{yes-1, yes-2, yes-3, yes-4}
 use Rattle.rules.proofs.Idle.{open-of}
 use Rattle.rules.proofs.Asking.{asks-ok, turn-ok}
 use Rattle.rules.proofs.Stored.{fine-after}
+use Rattle.rules.proofs.Roles.{turn-role}
 
 first-of-nine : (b : Bool) → b ≡ true → firstNo (asks 9 b ∷ []) ≡ 0
 unfolding firstNo
@@ -39,7 +41,7 @@ module _ {w : ℕ} {s₀ : Settings} {x : State} {W : WorldOf w s₀} {ws : ℕ 
       ∙ first-yes 6 _ (asks-ok (at F i here)) ∙ first-yes 8 _ (open-of (recordOf (x .areas) i) busy)
 
   pub data TurnIs : Type 0 where
-    carried : turn w (x .settings) i (x .areas) ≡ taken (act w (x .settings) (recordOf (x .areas) i) (memoryOf (x .areas))) i (x .areas .workers) → TurnOk w s₀ W ws i (act w (x .settings) (recordOf (x .areas) i) (memoryOf (x .areas))) → TurnIs
+    carried : turn w (x .settings) i (x .areas) ≡ taken (act w (views (x .settings) i) (x .settings) (recordOf (x .areas) i) (memoryOf (x .areas))) i (x .areas .workers) → TurnOk w s₀ W ws i (act w (views (x .settings) i) (x .settings) (recordOf (x .areas) i) (memoryOf (x .areas))) → TurnIs
     filled : turn w (x .settings) i (x .areas) ≡ full (x .settings) i (x .areas) → question9 (x .settings) (recordOf (x .areas) i) ≡ false → TurnIs
 
   pub turn-is : TurnIs
@@ -50,6 +52,6 @@ module _ {w : ℕ} {s₀ : Settings} {x : State} {W : WorldOf w s₀} {ws : ℕ 
       by false q = filled (nine-is-full w (x .settings) i (x .areas) (number-is ∙ nine-first _ q)) q
 
   -- the state after a turn that is taken
-  pub fine-taken : (K : TurnOk w s₀ W ws i (act w (x .settings) (recordOf (x .areas) i) (memoryOf (x .areas)))) → Fine w s₀ (after (taken (act w (x .settings) (recordOf (x .areas) i) (memoryOf (x .areas))) i (x .areas .workers))) (K .world) (upd ws i (K .worker))
+  pub fine-taken : (K : TurnOk w s₀ W ws i (act w (views (x .settings) i) (x .settings) (recordOf (x .areas) i) (memoryOf (x .areas)))) → Fine w s₀ (after (taken (act w (views (x .settings) i) (x .settings) (recordOf (x .areas) i) (memoryOf (x .areas))) i (x .areas .workers))) (K .world) (upd ws i (K .worker))
   unfolding taken
-  fine-taken K = fine-after F i here (K .table) (K .inv) (K .levels) (K .matches)
+  fine-taken K = fine-after F i here (K .table) (K .inv) (K .levels) (K .matches) (turn-role F i here busy)

@@ -13,14 +13,14 @@ use Rattle.words.proofs.Choice.{pick-true, pick-false}
 use Rattle.settings.specs.declared.Settings.{Settings}
 use Rattle.areas.specs.Memory.{none}
 use Rattle.record.specs.declared.Answer.{Answer}
-use Rattle.record.specs.declared.Answer.the-variants.{Nothing, New, Found, Full, Open}
+use Rattle.record.specs.declared.Answer.the-variants.{Nothing, New, Found, Full, Open, Absent}
 use Rattle.rules.specs.Asked.{question4}
 use Rattle.rules.specs.Lists.{State}
 use Rattle.rules.specs.Calls.{Call, Opened, others, leftOpen, endedBy}
 use Rattle.trie.proofs.Update.{upd, upd-same, upd-other}
 use Rattle.trie.proofs.Whole.{idle, Worker}
 use Rattle.rules.proofs.RowTurns.{Newest, RowAfter, row-waits}
-use Rattle.rules.proofs.Invariant.{WorldOf, Fine, Rowing, goes, ends-new, ends-found}
+use Rattle.rules.proofs.Invariant.{WorldOf, Fine, Rowing, goes, ends-new, ends-found, ends-absent}
 use Rattle.rules.proofs.FineQuestions.{worker-of}
 
 -- after k events, with the calls that are open and the calls that ended
@@ -55,6 +55,7 @@ pub top-stays : {w : ℕ} {s₀ : Settings} {x : State} {W W′ : WorldOf w s₀
 top-stays f t (goes E b n e y) = E .prev-is 0 (f .inv .structure .tree-ok .root) ∙ t
 top-stays f t (ends-new k q e z) = ap (λ U. U .tree .prev 0) e ∙ t
 top-stays f t (ends-found k q e z) = ap (λ U. U .tree .prev 0) e ∙ t
+top-stays f t (ends-absent u e z) = ap (λ U. U .tree .prev 0) e ∙ t
 
 -- a turn of worker i leaves the other workers' calls open
 ended-others : (i j : ℕ) → j ≢ i → (n : ℕ) (a : Answer) (os : List Opened) → endedBy j n a (others i os) ≡ endedBy j n a os
@@ -75,6 +76,7 @@ newest-left {os} {j} i h o (New m) = record { ends = λ n a. ended-others i j h 
 newest-left {os} {j} i h o (Found m) = record { ends = λ n a. ended-others i j h n a os ∙ o .ends n a }
 newest-left {os} {j} i h o Full = record { ends = λ n a. ended-others i j h n a os ∙ o .ends n a }
 newest-left i h o Open = o
+newest-left {os} {j} i h o Absent = record { ends = λ n a. ended-others i j h n a os ∙ o .ends n a }
 
 -- after a turn of worker i that is answered v the other workers' open calls are as before, and worker i's if its call goes on
 pub newest-stays : (s₀ : Settings) (ws : ℕ → Worker) {starts : ℕ → ℕ} {os : List Opened} → ((i : ℕ) → i < s₀ .workers → ws i .act ≢ idle → Newest os i (starts i) (ws i .key)) → (i : ℕ) (c : Worker) (v : Answer) → (c .act ≢ idle → (ws i .act ≢ idle) × ((c .key ≡ ws i .key) × (leftOpen i v os ≡ os))) → (j : ℕ) → j < s₀ .workers → upd ws i c j .act ≢ idle → Newest (leftOpen i v os) j (starts j) (upd ws i c j .key)

@@ -2,8 +2,9 @@
 -- Relies on the kinds of searching and moving.
 use Prim.Native.Nat.{ℕ}
 use mathlib.Core.Path.{_≡_, refl}
-use mathlib.Core.Bool.{true, false}
+use mathlib.Core.Bool.{Bool, true, false}
 use Rattle.words.proofs.Choice.{both-true}
+use Rattle.settings.specs.Sizes.{views}
 use Rattle.settings.specs.declared.Settings.{Settings}
 use Rattle.areas.specs.Memory.{Memory}
 use Rattle.record.specs.declared.Kind.{Kind}
@@ -24,19 +25,19 @@ unfolding readsBy
 idle-reads k w s r m e = rw (e, readsBy) refl
 
 module _ {w : ℕ} {s₀ s : Settings} {m : Memory} {W : WorldOf w s₀} {ws : ℕ → Worker} {i : ℕ} {r : Record} (a : At w s₀ s m W ws i r) where
-  pub asks-ok : question6 w s r m ≡ true
+  pub asks-ok : question6 w (views s i) s r m ≡ true
   unfolding question6
   asks-ok = both-true (fits-ok a) (by (a .matches .doing) refl)
     where
       by : {x : Act} → Doing (r .head) (r .moves) x → ws i .act ≡ x → readsBy (r .head .kind) w s (r .head) (r .moves) m ≡ true
-      by (rests e v n) q = idle-reads (r .head .kind) w s r m e
+      by (rests e v) q = idle-reads (r .head .kind) w s r m e
       by (searches {p = p} e v n) q = search-asks a p q
       by (moves {f} {fs} {s = p} e v n) q = move-asks a f fs p q
 
-  pub turn-ok : question7 r ≡ false → question9 s r ≡ true → TurnOk w s₀ W ws i (act w s r m)
+  pub turn-ok : question7 r ≡ false → question9 s r ≡ true → TurnOk w s₀ W ws i (act w (views s i) s r m)
   turn-ok b q = by (ws i .act) refl
     where
-      by : (x : Act) → ws i .act ≡ x → TurnOk w s₀ W ws i (act w s r m)
+      by : (x : Act) → ws i .act ≡ x → TurnOk w s₀ W ws i (act w (views s i) s r m)
       by idle e = absurd (busy-acts (a .matches) b e)
-      by (searching p) e = search-turn a p e q
-      by (moving f fs p) e = move-turn a f fs p e
+      by (searching p) e = search-turn a (views s i) p e q
+      by (moving f fs p) e = move-turn a (views s i) f fs p e

@@ -2,11 +2,11 @@
 -- Relies on one call alone, on that the next may follow, and on the list over one call.
 use Prim.Native.Nat.{ℕ, _<_}
 use mathlib.Core.Path.{_≡_, refl, ap, ap₂, _∙_}
-use mathlib.Core.Bool.{true}
+use mathlib.Core.Bool.{true, false}
 use mathlib.Core.List.{List, [], _∷_, _++_}
 use native.Mathlib.Omega.{arith}
 use Rattle.words.specs.Digits.{pixelNumber}
-use Rattle.settings.specs.Sizes.{fresh}
+use Rattle.settings.specs.Sizes.{fresh, views}
 use Rattle.settings.specs.declared.Settings.{Settings}
 use Rattle.record.specs.Kinds.{kindNo}
 use Rattle.record.specs.Layout.{Record}
@@ -26,12 +26,12 @@ use Rattle.rules.proofs.Along.{Along}
 use Rattle.rules.proofs.Opened.{opened-record, along-opened}
 use Rattle.rules.proofs.Sequence.{run-along}
 use Rattle.rules.proofs.Theorem.{opening-yes, opened-width}
-use Rattle.rules.proofs.AloneAnswers.{one-shown, none-shown, answers-of}
+use Rattle.rules.proofs.AloneAnswers.{one-shown, none-shown, answers-of, right-false}
 use Rattle.rules.proofs.AloneNext.{carried, reaches-of}
 use Rattle.rules.proofs.Flat.{flat-call}
 
 -- from a state x₀ that holds what an opening leaves
-module _ {w : ℕ} {s₀ : Settings} {x₀ : State} (a : Along w s₀ x₀ 0 [] []) (i : ℕ) (here : i < s₀ .workers) where
+module _ {w : ℕ} {s₀ : Settings} {x₀ : State} (a : Along w s₀ x₀ 0 [] []) (i : ℕ) (here : i < s₀ .workers) (placing : views s₀ i ≡ false) where
   -- the state after the events: the worker is idle and holds nothing, and the table shows the list
   record Ready (es : List Event) (l : List ℕ) : Type 0 where
     idle : question7 (recordOf (stateAfter w es x₀ .areas) i) ≡ true
@@ -50,12 +50,12 @@ module _ {w : ℕ} {s₀ : Settings} {x₀ : State} (a : Along w s₀ x₀ 0 [] 
   one-call p q es l k =
       let b = run-along es x₀ 0 [] [] a .along in
       let F = b .fine in
-      let z = carried F i (p .0) (p .1) here q (k .idle) in
-      let (n, e) = reaches-of a es i (p .0) (p .1) z in
+      let z = carried F false i (p .0) (p .1) here (right-false s₀ i placing) q (k .idle) in
+      let (n, e) = reaches-of a es false i (p .0) (p .1) z in
       let c = answers-of b i (p .0) (p .1) z (k .no-spare) in
       let (v, t) = flat-call (pixelNumber (p .0) (p .1)) (callAlone w (aloneTurns w s₀) i p (stateAfter w es x₀)) (k .table) (s₀ .nodes) (F .table .same .nodes-is) (λ m n g h. one-shown F (b .top) g h) (c .answers) in
       record {
-        events = es ++ starts i (p .0) (p .1) ∷ turnsOf i n;
+        events = es ++ starts false i (p .0) (p .1) ∷ turnsOf i n;
         led = e;
         answer-is = v;
         ready = record { idle = rw e (c .idle); no-spare = rw e (c .no-spare); table = rw e t };
@@ -85,11 +85,11 @@ idle-7 = refl
 -- over every width whose digits fit the pixel numbers
 pub calls-alone : (w : ℕ) → Width w → (s : Settings) → CallsStatement w s
 unfolding openedSettings fresh
-calls-alone w width s a z i h ps u =
+calls-alone w width s a z i h v ps u =
     let y = refuses-opening w s a .numbered .carried .0 z in
     let q = opening-yes w s a y in
     let r = opened-record w s a i h (q .1) in
-    rw (opening-done w s a z) (list-like (along-opened width s a (q .0) (q .1)) i h refl (ap question7 r ∙ idle-7) (ap (λ (r : Record). r .head .«held_node») r) ps u)
+    rw (opening-done w s a z) (list-like (along-opened width s a (q .0) (q .1)) i h v refl (ap question7 r ∙ idle-7) (ap (λ (r : Record). r .head .«held_node») r) ps u)
 
 -- document 02's tables, each at the width that its settings give
 pub calls-alone-all : AtWidth CallsStatement

@@ -2,6 +2,7 @@
 -- Relies on the law of an operation that asks first.
 use Prim.Native.Nat.{ℕ}
 use mathlib.Core.Path.{_≡_, refl}
+use mathlib.Core.Bool.{Bool}
 use Rattle.settings.specs.declared.Settings.{Settings}
 use Rattle.areas.specs.Memory.{Areas}
 use Rattle.record.specs.declared.Answer.the-variants.{Nothing, Open}
@@ -13,6 +14,6 @@ pub opening-done : (w : ℕ) (s : Settings) (a : Areas) → opening w s a .reply
 unfolding opening
 opening-done w s a z = unless-done s a _ _ refl z
 
-pub start-done : (w : ℕ) (s : Settings) (i row column : ℕ) (a : Areas) → start w s i row column a .reply .number ≡ 0 → start w s i row column a ≡ result (reply 0 Open 0 s) (startedAreas i row column a)
+pub start-done : (w : ℕ) (s : Settings) (looks : Bool) (i row column : ℕ) (a : Areas) → start w s looks i row column a .reply .number ≡ 0 → start w s looks i row column a ≡ result (reply 0 Open 0 s) (startedAreas i row column a)
 unfolding start
-start-done w s i row column a z = unless-done s a _ _ refl z
+start-done w s looks i row column a z = unless-done s a _ _ refl z

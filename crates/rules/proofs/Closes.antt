@@ -13,7 +13,7 @@ use Rattle.words.specs.Blocks.{cells}
 use Rattle.words.specs.Choice.{pick}
 use Rattle.words.proofs.Blocks.{getD-cells}
 use Rattle.words.proofs.Choice.{pick-both, both-left, both-right}
-use Rattle.settings.specs.Sizes.{workerWords, question2}
+use Rattle.settings.specs.Sizes.{workerWords, question2, views}
 use Rattle.settings.specs.declared.Settings.{Settings}
 use Rattle.areas.specs.Memory.{Areas}
 use Rattle.record.specs.declared.Answer.the-variants.{Full}
@@ -43,15 +43,15 @@ at-or-above P j c l y n = by (ltb c j) refl
     by false e = let u : j ≤ c = ltb-false _ _ e in let q : c ≡ j = omega arith in subst P q y
 
 -- the record of a worker that is to take a node has no Move, where it fits
-no-moves : (w : ℕ) (s : Settings) (r : Record) (k : ℕ) → Takes k → fitsBy w s k r ≡ true → length (r .moves) ≡ 0
+no-moves : (w : ℕ) (v : Bool) (s : Settings) (r : Record) (k : ℕ) → Takes k → fitsBy w v s k r ≡ true → length (r .moves) ≡ 0
 unfolding fitsBy
-no-moves w s r k t =
+no-moves w v s r k t =
     let l : 0 < k = takes-low t .0 in
     let u : k < 7 = takes-low t .1 in
     let Fits : Bool → Type 0 = λ b. b ≡ true → length (r .moves) ≡ 0 in
     pick-both Fits (eqb k 0)
     (λ e y. let z : k ≡ 0 = eqb-true _ _ e in absurd (omega arith))
-    (λ e. pick-both Fits (leb k 10) (λ f y. eqb-true _ _ (both-right _ _ y)) (λ f y. let z : 10 < k = leb-false _ _ f in absurd (omega arith)))
+    (λ e y. pick-both Fits (leb k 10) (λ f y. eqb-true _ _ (both-right _ _ y)) (λ f y. let z : 10 < k = leb-false _ _ f in absurd (omega arith)) (both-right _ _ y))
 
 module _ (w : ℕ) (s : Settings) (i : ℕ) (a : Areas) where
   -- the worker's words are there
@@ -69,7 +69,7 @@ module _ (w : ℕ) (s : Settings) (i : ℕ) (a : Areas) where
   moves-none y =
       let r : Record = recordOf a i in
       let t = takes-number (r .head .kind) (none-left s r (last-no 9 _ (λ z. omega arith) (y .nine)) .taking) in
-      sym (length-first (a .workers) i (movesAt (a .workers) i)) ∙ no-moves w s r (kindNo (r .head .kind)) t (both-left _ _ (y .six))
+      sym (length-first (a .workers) i (movesAt (a .workers) i)) ∙ no-moves w (views s i) s r (kindNo (r .head .kind)) t (both-left _ _ (y .six))
 
   -- the workers' words after it
   words : List ℕ

@@ -1,19 +1,19 @@
 -- What follows from a row, proved of every row, and so of every sequence.
 -- Relies on the row's book and on demand 3.
-use Prim.Native.Nat.{ℕ}
+use Prim.Native.Nat.{ℕ, _<_}
 use mathlib.Core.Path.{_≡_, refl, sym, ap, _∙_}
 use mathlib.Core.Logic.{_≢_, _⊎_, inl, inr}
 use mathlib.Core.List.{List, [], _∷_, _++_, List·Memᴰ, List·Memᴰ·head, List·Memᴰ·tail, List·Memᴰ·not-nil, List·Memᴰ·cases-cons, List·Memᴰ·append-cases, List·Memᴰ·eq-of-singleton, Memᴰ·append-right, List·Permᴰ, List·Permᴰ·nil, List·Permᴰ·cons, List·Permᴰ·swap, List·Permᴰ·trans}
 use native.Mathlib.Omega.{arith}
 use Rattle.settings.specs.declared.Settings.{Settings}
 use Rattle.areas.specs.Memory.{Areas}
-use Rattle.record.specs.declared.Answer.the-variants.{New, Found, Full}
+use Rattle.record.specs.declared.Answer.the-variants.{New, Found, Full, Absent}
 use Rattle.rules.specs.Operations.{opening}
 use Rattle.rules.specs.Lists.{State}
-use Rattle.rules.specs.Calls.{Event, stateAfter, Call, Book, Holds, HasPixel, Reads, ReadsRow, done, then}
+use Rattle.rules.specs.Calls.{Event, stateAfter, Call, Book, Holds, HasPixel, InOrder, Reads, ReadsRow, done, then}
 use Rattle.rules.specs.Calls as calls
 use Rattle.rules.specs.Demands.{Row}
-use Rattle.rules.specs.Consequences.{NonePlaces, AllFind, NewIn, Shown, Consequences}
+use Rattle.rules.specs.Consequences.{Places, NonePlaces, AllFind, NewIn, Shown, Consequences}
 use Rattle.rules.proofs.RowBook.{Born, born, when-born, run-keeps, read-places, places-in}
 use Rattle.rules.proofs.Theorem.{theorem}
 
@@ -52,6 +52,7 @@ read-one : {b b′ : Book} {c : Call} → Reads b c b′ → OneToOne b → OneT
 read-one {c = c} (calls.new n a out free is) o = rw is (one-noted (c .pixel) n out (λ p i. free (p, i)) o)
 read-one (calls.found n a i is) o = rw is o
 read-one (calls.full a out is) o = rw is o
+read-one (calls.absent a out is) o = rw is o
 
 run-one : {b b′ : Book} {cs : List Call} → ReadsRow b cs b′ → OneToOne b → OneToOne b′
 run-one (done e) o = rw e o
@@ -74,17 +75,26 @@ is-found : {b b′ : Book} {c : Call} {n : ℕ} → Reads b c b′ → c .answer
 is-found (calls.new m a out free is) e = let y : _≡_ {A = ℕ} 0 1 = cc in absurd (omega arith)
 is-found {n = n} (calls.found m a i is) e = let q : m ≡ n = cc in rw q at i
 is-found (calls.full a out is) e = let y : _≡_ {A = ℕ} 0 1 = cc in absurd (omega arith)
+is-found (calls.absent a out is) e = let y : _≡_ {A = ℕ} 0 1 = cc in absurd (omega arith)
 
 not-found : {b b′ : Book} {c : Call} → Reads b c b′ → ((n : ℕ) → c .answer ≢ Found n) → ¬ (HasPixel b (c .pixel))
 not-found (calls.new m a out free is) h = out
 not-found (calls.found m a i is) h = absurd (h m a)
 not-found (calls.full a out is) h = out
+not-found (calls.absent a out is) h = out
 
 new-found : {m n : ℕ} → New n ≡ Found m → ⊥
 new-found e = let y : _≡_ {A = ℕ} 0 1 = cc in omega arith
 
 full-found : {m : ℕ} → Full ≡ Found m → ⊥
 full-found e = let y : _≡_ {A = ℕ} 0 1 = cc in omega arith
+
+absent-found : {m : ℕ} → Absent ≡ Found m → ⊥
+absent-found e = let y : _≡_ {A = ℕ} 0 1 = cc in omega arith
+
+absent-places : (d : Call) {n : ℕ} → Places d n → d .answer ≡ Absent → ⊥
+absent-places d (inl a) e = let y : _≡_ {A = ℕ} 0 1 = cc in omega arith
+absent-places d (inr a) e = absent-found (sym e ∙ a)
 
 none-before : {b : Book} {cs : List Call} (p : ℕ) → ReadsRow [] cs b → ¬ (HasPixel b p) → NonePlaces cs p
 none-before p r out d n i e a = out (n, rw e at (places-in r d n i a))
@@ -94,6 +104,7 @@ finds : {b b′ : Book} {c : Call} {n : ℕ} → OneToOne b → Holds b (c .pixe
 finds {n = n} o i (calls.new m a out free is) = absurd (out (n, i))
 finds {c = c} {n = n} o i (calls.found m a j is) = a ∙ ap Found (o .nodes (c .pixel) m n j i)
 finds {n = n} o i (calls.full a out is) = absurd (out (n, i))
+finds {n = n} o i (calls.absent a out is) = absurd (out (n, i))
 
 all-find : {b b′ : Book} {cs : List Call} (p n : ℕ) → OneToOne b → Holds b p n → ReadsRow b cs b′ → AllFind cs p n
 all-find p n o i (done e) d j q = absurd (List·Memᴰ·not-nil j)
@@ -102,6 +113,19 @@ all-find {b} {b′} p n o i (then {b₁ = b₁} {c = c} {cs = cs} a r) d j q = b
     by : (d ≡ c) ⊎ List·Memᴰ d cs → (List·Memᴰ d cs → d .answer ≡ Found n) → d .answer ≡ Found n
     by (inl e) f = rw e (finds o (rw (sym q ∙ ap (λ z. z .pixel) e) at i) a)
     by (inr k) f = f k
+
+-- a call that places its pixel did not end before one that says "absent" of it started
+late :
+    {b b′ : Book} {cs : List Call} → OneToOne b → ReadsRow b cs b′ → InOrder cs → (c d : Call) (n : ℕ)
+    → List·Memᴰ c cs → List·Memᴰ d cs → c .answer ≡ Absent → Places d n → d .pixel ≡ c .pixel → ¬ (d .end < c .start)
+late o (done z) q c d n i j a u e = absurd (List·Memᴰ·not-nil i)
+late {b} {b′} o (then {b₁ = b₁} {c = h} {cs = cs} k r) (calls.first f q) c d n i j a u e = by (List·Memᴰ·cases-cons i) (List·Memᴰ·cases-cons j) (λ x y. late (read-one k o) r q c d n x y a u e)
+  where
+    by : (c ≡ h) ⊎ List·Memᴰ c cs → (d ≡ h) ⊎ List·Memᴰ d cs → (List·Memᴰ c cs → List·Memᴰ d cs → ¬ (d .end < c .start)) → ¬ (d .end < c .start)
+    by (inl x) (inl y) z = absurd (absent-places d u (ap (λ (v : Call). v .answer) (y ∙ sym x) ∙ a))
+    by (inl x) (inr y) z = rw x (f d y)
+    by (inr x) (inl y) z = absurd (absent-found (sym a ∙ all-find (c .pixel) n (read-one k o) (rw (sym (ap (λ (v : Call). v .pixel) y) ∙ e) at (read-places k (rw y at u))) r c x refl))
+    by (inr x) (inr y) z = z x y
 
 -- a pair in the book was entered by a "new"
 new-in : {b : Book} {cs : List Call} (p n : ℕ) → ReadsRow [] cs b → Holds b p n → NewIn cs p n
@@ -148,6 +172,8 @@ module _ {w : ℕ} {x : State} {es : List Event} (R : Row w x es) where
             (none-before (c .pixel) (k .up-to) (not-found (k .here) (λ m f. new-found (sym a ∙ f))), all-find (c .pixel) n (read-one (k .here) o) (read-places (k .here) (inl a)) (k .on));
         found-after = λ pre post c n e a. let k = cut pre c post (rw e at (R .reads)) in new-in (c .pixel) n (k .up-to) (is-found (k .here) a);
         full-before = λ pre post c e a. let k = cut pre c post (rw e at (R .reads)) in none-before (c .pixel) (k .up-to) (not-found (k .here) (λ m f. full-found (sym a ∙ f)));
+        absent-before = λ pre post c e a. let k = cut pre c post (rw e at (R .reads)) in none-before (c .pixel) (k .up-to) (not-found (k .here) (λ m f. absent-found (sym a ∙ f)));
+        absent-late = late none-noted (R .reads) (R .in-order);
       }
 
 -- of every sequence

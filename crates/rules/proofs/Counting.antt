@@ -11,6 +11,7 @@ use lib.Dec.{eqb}
 use borrow.Author.Tests.{eq-eqb, ne-eqb}
 use Rattle.words.specs.Choice.{pick, both}
 use Rattle.words.proofs.Choice.{pick-both, pick-true, pick-false}
+use Rattle.settings.specs.Sizes.{views}
 use Rattle.settings.specs.declared.Settings.{Settings}
 use Rattle.areas.specs.Memory.{Memory, isNode, cellAt}
 use Rattle.areas.specs.declared.Cell.{Cell}
@@ -25,7 +26,6 @@ use Rattle.rules.specs.Steps.{Step, tookNode, tookLevel, withNode, takeN
 use Rattle.rules.specs.Searching as searching
 use Rattle.rules.specs.Moving as moving
 use Rattle.rules.specs.Acts.{actBy, act}
-use Rattle.rules.specs.Asked.{takesNode}
 use Rattle.rules.specs.Operations.{Result, recordOf, memoryOf, start, turn, taken, full}
 use Rattle.rules.specs.Lists.{State, after}
 use Rattle.rules.specs.Calls.{Event, starts, turns, happens, stateAfter}
@@ -56,6 +56,10 @@ module _ (w : ℕ) (s : Settings) (h : Head) where
   unfolding searching.met searching.metNode
   met-same c g word m = pick-both (Same s) (isNode word) (λ e. pick-both (Same s) (eqb _ (h .pixel)) (λ q. refl) (λ q. refl)) (λ e. refl)
 
+  viewed-same : (looks : Bool) (h′ : Head) (m : Memory) → Same s (searching.viewed looks s h′ m)
+  unfolding searching.viewed
+  viewed-same looks h′ m = pick-both (Same s) _ (λ e. refl) (λ e. refl)
+
   chain-same : (v : Move) (os : List Move) (word : ℕ) (m : Memory) → Same s (moving.chainWord s h v os word m)
   unfolding moving.chainWord moving.setLast
   chain-same v os word m = pick-both (Same s) (isNode word) (λ e. refl) (λ e. refl)
@@ -76,37 +80,37 @@ module _ (w : ℕ) (s : Settings) (h : Head) where
   plus-zero e = omega arith
 
   -- by kind
-  kind-counts : (k : Kind) (ms : List Move) (m : Memory) → actBy k w s h ms m .settings .«nodes_taken» ≡ s .«nodes_taken» + pick (both (takesNode k) (eqb (h .«held_node») 0)) 1 0
-  unfolding actBy takesNode kindNo both pick searching.look searching.take searching.put searching.read searching.readWord searching.tail searching.takeTail searching.append searching.level searching.close searching.follow searching.followWord moving.chainHead moving.chainNext moving.setNext moving.setLook moving.setPut moving.setRead moving.setReadWord moving.setMet moving.setTail moving.setAppend moving.setLevel moving.setClose moving.setFollow moving.setFollowWord moving.moveEnd
-  kind-counts Idle ms m = plus-zero refl
-  kind-counts Look ms m = plus-zero refl
-  kind-counts Take ms m = take-counts Put m
-  kind-counts Put ms m = plus-zero (placed-same _ _ m (met-same 1 _ _ m))
-  kind-counts Read ms m = plus-zero (met-same 1 _ _ m)
-  kind-counts Tail ms m = plus-zero refl
-  kind-counts TakeTail ms m = take-counts Append m
-  kind-counts Append ms m = plus-zero (placed-same _ _ m (met-same _ _ _ m))
-  kind-counts Level ms m = plus-zero (level-same Close [] m)
-  kind-counts Close ms m = plus-zero (closed-same _ [] m (met-same _ _ _ m))
-  kind-counts Follow ms m = plus-zero (met-same _ _ _ m)
-  kind-counts ChainHead ms m = plus-zero (chain-same _ _ _ m)
-  kind-counts ChainNext ms m = plus-zero (chain-same _ _ _ m)
-  kind-counts SetNext ms m = plus-zero refl
-  kind-counts SetLook ms m = plus-zero refl
-  kind-counts SetPut ms m = plus-zero (set-same _ _ _ _ m refl)
-  kind-counts SetRead ms m = plus-zero refl
-  kind-counts SetTail ms m = plus-zero refl
-  kind-counts SetAppend ms m = plus-zero (set-same _ _ _ _ m refl)
-  kind-counts SetLevel ms m = plus-zero (level-same SetClose _ m)
-  kind-counts SetClose ms m = plus-zero (closed-same _ _ m refl)
-  kind-counts SetFollow ms m = plus-zero refl
-  kind-counts MoveEnd ms m = plus-zero refl
-  kind-counts Unknown ms m = plus-zero refl
+  kind-counts : (looks : Bool) (k : Kind) (ms : List Move) (m : Memory) → actBy k w looks s h ms m .settings .«nodes_taken» ≡ s .«nodes_taken» + pick (both (searching.takesNode k) (eqb (h .«held_node») 0)) 1 0
+  unfolding actBy searching.takesNode kindNo both pick searching.look searching.take searching.put searching.read searching.readWord searching.tail searching.takeTail searching.append searching.level searching.close searching.follow searching.followWord moving.chainHead moving.chainNext moving.setNext moving.setLook moving.setPut moving.setRead moving.setReadWord moving.setMet moving.setTail moving.setAppend moving.setLevel moving.setClose moving.setFollow moving.setFollowWord moving.moveEnd
+  kind-counts looks Idle ms m = plus-zero refl
+  kind-counts looks Look ms m = plus-zero (viewed-same looks _ m)
+  kind-counts looks Take ms m = take-counts Put m
+  kind-counts looks Put ms m = plus-zero (placed-same _ _ m (met-same 1 _ _ m))
+  kind-counts looks Read ms m = plus-zero (met-same 1 _ _ m)
+  kind-counts looks Tail ms m = plus-zero (viewed-same looks _ m)
+  kind-counts looks TakeTail ms m = take-counts Append m
+  kind-counts looks Append ms m = plus-zero (placed-same _ _ m (met-same _ _ _ m))
+  kind-counts looks Level ms m = plus-zero (level-same Close [] m)
+  kind-counts looks Close ms m = plus-zero (closed-same _ [] m (met-same _ _ _ m))
+  kind-counts looks Follow ms m = plus-zero (met-same _ _ _ m)
+  kind-counts looks ChainHead ms m = plus-zero (chain-same _ _ _ m)
+  kind-counts looks ChainNext ms m = plus-zero (chain-same _ _ _ m)
+  kind-counts looks SetNext ms m = plus-zero refl
+  kind-counts looks SetLook ms m = plus-zero refl
+  kind-counts looks SetPut ms m = plus-zero (set-same _ _ _ _ m refl)
+  kind-counts looks SetRead ms m = plus-zero refl
+  kind-counts looks SetTail ms m = plus-zero refl
+  kind-counts looks SetAppend ms m = plus-zero (set-same _ _ _ _ m refl)
+  kind-counts looks SetLevel ms m = plus-zero (level-same SetClose _ m)
+  kind-counts looks SetClose ms m = plus-zero (closed-same _ _ m refl)
+  kind-counts looks SetFollow ms m = plus-zero refl
+  kind-counts looks MoveEnd ms m = plus-zero refl
+  kind-counts looks Unknown ms m = plus-zero refl
 
 -- a turn that is carried out
-act-counts : (w : ℕ) (s : Settings) (r : Record) (m : Memory) → act w s r m .settings .«nodes_taken» ≡ s .«nodes_taken» + pick (both (takesNode (r .head .kind)) (eqb (r .head .«held_node») 0)) 1 0
+act-counts : (w : ℕ) (looks : Bool) (s : Settings) (r : Record) (m : Memory) → act w looks s r m .settings .«nodes_taken» ≡ s .«nodes_taken» + pick (both (searching.takesNode (r .head .kind)) (eqb (r .head .«held_node») 0)) 1 0
 unfolding act
-act-counts w s r m = kind-counts w s (r .head) (r .head .kind) (r .moves) m
+act-counts w looks s r m = kind-counts w s (r .head) looks (r .head .kind) (r .moves) m
 
 both-true-right : (a b : Bool) → both a (both b true) ≡ both a b
 unfolding both
@@ -129,7 +133,7 @@ module _ (w : ℕ) (x : State) where
       r = turn w (x .settings) i (x .areas)
 
       a : Bool
-      a = takesNode (recordOf (x .areas) i .head .kind)
+      a = searching.takesNode (recordOf (x .areas) i .head .kind)
 
       b : Bool
       b = eqb (recordOf (x .areas) i .head .«held_node») 0
@@ -144,29 +148,29 @@ module _ (w : ℕ) (x : State) where
       by (yes z) d =
           let q : eqb (r .reply .number) 0 ≡ true = eq-eqb _ _ z in
           let y : _≡_ {A = ℕ} (pick (both a (both b (eqb (r .reply .number) 0))) 1 0) (pick (both a b) 1 0) = rw (q, both-true-right) refl in
-          let e : r .reply .settings .«nodes_taken» ≡ x .settings .«nodes_taken» + pick (both a b) 1 0 = ap (λ u. u .reply .settings .«nodes_taken») (done-number w (x .settings) i (x .areas) z) ∙ act-counts w (x .settings) (recordOf (x .areas) i) (memoryOf (x .areas)) in
+          let e : r .reply .settings .«nodes_taken» ≡ x .settings .«nodes_taken» + pick (both a b) 1 0 = ap (λ u. u .reply .settings .«nodes_taken») (done-number w (x .settings) i (x .areas) z) ∙ act-counts w (views (x .settings) i) (x .settings) (recordOf (x .areas) i) (memoryOf (x .areas)) in
           omega arith
       by (no z) (yes y) = none (ap (λ u. u .reply .settings .«nodes_taken») (nine-is-full w (x .settings) i (x .areas) y)) z
       by (no z) (no y) = none (ap (λ u. u .reply .settings .«nodes_taken») (turn-refused w (x .settings) i (x .areas) z y)) z
 
-  start-counts : (i row column : ℕ) → start w (x .settings) i row column (x .areas) .reply .settings .«nodes_taken» ≡ x .settings .«nodes_taken»
-  start-counts i row column = by (ℕ-discrete (start w (x .settings) i row column (x .areas) .reply .number) 0)
+  start-counts : (looks : Bool) (i row column : ℕ) → start w (x .settings) looks i row column (x .areas) .reply .settings .«nodes_taken» ≡ x .settings .«nodes_taken»
+  start-counts looks i row column = by (ℕ-discrete (start w (x .settings) looks i row column (x .areas) .reply .number) 0)
     where
       r : Result
-      r = start w (x .settings) i row column (x .areas)
+      r = start w (x .settings) looks i row column (x .areas)
 
       by : Dec (r .reply .number ≡ 0) → r .reply .settings .«nodes_taken» ≡ x .settings .«nodes_taken»
-      by (yes z) = ap (λ u. u .reply .settings .«nodes_taken») (start-done w (x .settings) i row column (x .areas) z)
-      by (no z) = ap (λ u. u .settings .«nodes_taken») (refuses-start w (x .settings) i row column (x .areas) .unchanged z .1)
+      by (yes z) = ap (λ u. u .reply .settings .«nodes_taken») (start-done w (x .settings) looks i row column (x .areas) z)
+      by (no z) = ap (λ u. u .settings .«nodes_taken») (refuses-start w (x .settings) looks i row column (x .areas) .unchanged z .1)
 
-  start-takes : (i row column : ℕ) → _≡_ {A = ℕ} (pick (takesNumber w (starts i row column) x) 1 0) 0
+  start-takes : (looks : Bool) (i row column : ℕ) → _≡_ {A = ℕ} (pick (takesNumber w (starts looks i row column) x) 1 0) 0
   unfolding takesNumber pick
-  start-takes i row column = refl
+  start-takes looks i row column = refl
 
   -- one event
   event-counts : (e : Event) → happens w e x .reply .settings .«nodes_taken» ≡ x .settings .«nodes_taken» + pick (takesNumber w e x) 1 0
   unfolding happens
-  event-counts (starts i row column) = let a = start-counts i row column in let b = start-takes i row column in omega arith
+  event-counts (starts looks i row column) = let a = start-counts looks i row column in let b = start-takes looks i row column in omega arith
   event-counts (turns i) = turn-counts i
 
 -- a sequence

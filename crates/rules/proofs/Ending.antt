@@ -8,6 +8,7 @@ use native.Mathlib.Omega.{arith}
 use lib.Dec.{eqb}
 use borrow.Author.Tests.{eqb-true, ltb-false}
 use Rattle.words.proofs.Choice.{true-false, pick-both}
+use Rattle.settings.specs.Sizes.{views}
 use Rattle.settings.specs.declared.Settings.{Settings}
 use Rattle.areas.specs.Memory.{Memory}
 use Rattle.record.specs.declared.Kind.{Kind}
@@ -15,8 +16,9 @@ use Rattle.record.specs.declared.Kind.the-variants.{Idle}
 use Rattle.record.specs.Kinds.{kindNo}
 use Rattle.record.specs.Layout.{Record}
 use Rattle.rules.specs.Heads.{ended}
-use Rattle.rules.specs.Asked.{takesNode, nodeLeft, question9}
-use Rattle.rules.specs.Operations.{full, fullRecord}
+use Rattle.rules.specs.Searching.{takesNode}
+use Rattle.rules.specs.Asked.{nodeLeft, question9}
+use Rattle.rules.specs.Operations.{recordOf, full, fullRecord}
 use Rattle.rules.specs.Lists.{State, after}
 use Rattle.trie.proofs.Update.{upd}
 use Rattle.trie.proofs.Evolve.{grows-refl}
@@ -28,6 +30,7 @@ use Rattle.rules.proofs.Matches.{Doing, rests, searches, moves}
 use Rattle.rules.proofs.KindNumbers.{Fetching, Takes, takes-low, search-takes, step-no}
 use Rattle.rules.proofs.Invariant.{WorldOf, At, Fine}
 use Rattle.rules.proofs.Stored.{fine-after}
+use Rattle.rules.proofs.Roles.{full-role}
 
 -- Take and TakeTail by number
 pub takes-number : (k : Kind) → takesNode k ≡ true → Takes (kindNo k)
@@ -73,7 +76,7 @@ module _ {w : ℕ} {s₀ s : Settings} {m : Memory} {W : WorldOf w s₀} {ws : �
       act-seen f (is-searching small b l) = seen f l
 
       by : {x : Act} → Doing (r .head) (r .moves) x → ws i .act ≡ x → Unseen W (ws i .key) (ws i .since)
-      by (rests e v z) q = absurd (omega (arith, takes-low n, idle-no e))
+      by (rests e v) q = absurd (omega (arith, takes-low n, idle-no e))
       by (searches {p = p} e v z) q = act-seen (search-takes p (rw e at n)) (rw q at (a .inv .each i .acts))
       by (moves {f} {fs} {s = p} e v z) q = absurd (omega (arith, takes-low n, step-no f p, ap kindNo e))
 
@@ -82,9 +85,9 @@ abbrev pub stopped : Worker → Worker
 stopped c = record { key = c .key; since = c .since; node = c .node; level = c .level; act = idle }
 
 -- and the state
-pub fine-full : {w : ℕ} {s₀ : Settings} {x : State} {W : WorldOf w s₀} {ws : ℕ → Worker} (F : Fine w s₀ x W ws) (i : ℕ) → i < s₀ .workers → Fine w s₀ (after (full (x .settings) i (x .areas))) W (upd ws i (stopped (ws i)))
+pub fine-full : {w : ℕ} {s₀ : Settings} {x : State} {W : WorldOf w s₀} {ws : ℕ → Worker} (F : Fine w s₀ x W ws) (i : ℕ) → i < s₀ .workers → takesNode (recordOf (x .areas) i .head .kind) ≡ true → Fine w s₀ (after (full (x .settings) i (x .areas))) W (upd ws i (stopped (ws i)))
 unfolding full fullRecord ended
-fine-full {W = W} {ws = ws} F i h =
+fine-full {w} {s₀} {x} {W = W} {ws = ws} F i h t =
     let M = F .records i h in
     let I = stay-step (F .inv) i (stopped (ws i)) (record { acts = is-idle; holds-node = F .inv .each i .holds-node; holds-level = F .inv .each i .holds-level }) in
-    fine-after F i h (F .table) I (levels-stay (F .levels) i h (stopped (ws i)) (grows-refl W) refl) (record { pixel-is = M .pixel-is; node-is = M .node-is; level-is = M .level-is; doing = rests refl refl (omega arith) })
+    fine-after F i h (F .table) I (levels-stay (F .levels) i h (stopped (ws i)) (grows-refl W) refl) (record { pixel-is = M .pixel-is; node-is = M .node-is; level-is = M .level-is; doing = rests refl refl }) (full-role (views s₀ i) (recordOf (x .areas) i .head .«held_node») (recordOf (x .areas) i .head) t (F .roles i h))

@@ -9,7 +9,7 @@ use native.Mathlib.Omega.{arith}
 use borrow.Author.Tests.{eq-eqb, ne-eqb}
 use Rattle.words.specs.Choice.{asks, every, firstNo}
 use Rattle.words.proofs.Choice.{pick-true, pick-false, both-true, both-false-left}
-use Rattle.settings.specs.Sizes.{question1, question3}
+use Rattle.settings.specs.Sizes.{question1, question3, views}
 use Rattle.rules.specs.Asked.{question4, question6, question8, question9}
 use Rattle.rules.specs.Operations.{question2Of, recordOf, memoryOf, turnQuestions, turn}
 use Rattle.rules.specs.Lists.{State, after, Visit, visit, turnAt, leftAfter, visits, metSix, counts}
@@ -24,7 +24,7 @@ module _ (w : ℕ) (x : State) (i : ℕ) where
 
   -- the entry's questions 6, 8 and 9
   abbrev six : Bool
-  six = question6 w (x .settings) (recordOf (x .areas) i) (memoryOf (x .areas))
+  six = question6 w (views (x .settings) i) (x .settings) (recordOf (x .areas) i) (memoryOf (x .areas))
 
   abbrev eight : Bool
   eight = question8 (recordOf (x .areas) i)

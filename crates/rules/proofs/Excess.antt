@@ -2,13 +2,13 @@
 -- Relies on the law of an operation that asks first, and on what a turn's kinds write where its questions are answered yes.
 use Prim.Native.Nat.{ℕ, zero, suc, _≤_, _<_}
 use mathlib.Core.Path.{_≡_, _∙_}
-use mathlib.Core.Bool.{true, false}
+use mathlib.Core.Bool.{Bool, true, false}
 use mathlib.Core.List.{List, [], _∷_}
 use native.Mathlib.Omega.{arith}
 use borrow.Author.Tests.{ltb-true, eqb-true}
 use Rattle.words.specs.Choice.{firstNo}
 use Rattle.words.proofs.Choice.{pick-both, both-left, both-right}
-use Rattle.settings.specs.Sizes.{maxMoves, mostMoves, levelCount, question1}
+use Rattle.settings.specs.Sizes.{maxMoves, mostMoves, levelCount, question1, views}
 use Rattle.settings.specs.declared.Settings.{Settings}
 use Rattle.settings.proofs.Laws.{ranges}
 use Rattle.areas.specs.Memory.{Areas}
@@ -73,11 +73,11 @@ module _ (w : ℕ) (s : Settings) where
   unfolding lastAnswer
   last-untouched i a = unless-untouched _ _ (λ z. untouched-refl w s a)
 
-  start-untouched : (i row column : ℕ) (a : Areas) → Untouched w s a (start w s i row column a .areas)
+  start-untouched : (looks : Bool) (i row column : ℕ) (a : Areas) → Untouched w s a (start w s looks i row column a .areas)
   unfolding start startQuestions startedAreas
-  start-untouched i row column a = unless-untouched _ _ (λ z. with-record w s i _ a (fit-none) (below z))
+  start-untouched looks i row column a = unless-untouched _ _ (λ z. with-record w s i _ a (fit-none) (below z))
     where
-      below : firstNo (startQuestions w s i row column a) ≡ 0 → question4 s i ≡ true
+      below : firstNo (startQuestions w s looks i row column a) ≡ 0 → question4 s i ≡ true
       below z =
           let (y₁, e₁) = first-later 1 _ _ (λ y. omega arith) z in
           let (y₂, e₂) = first-later 2 _ _ (λ y. omega arith) e₁ in
@@ -85,16 +85,16 @@ module _ (w : ℕ) (s : Settings) where
           first-later 4 _ _ (λ y. omega arith) e₃ .0
 
   -- the Moves of a record that fits, of a worker with a call open
-  loaded : maxMoves w ≤ mostMoves → (l : List ℕ) (i : ℕ) → fits w s (load l i) ≡ true → question7 (load l i) ≡ false → FitWords (load l i .moves)
+  loaded : maxMoves w ≤ mostMoves → (l : List ℕ) (i : ℕ) → fits w (views s i) s (load l i) ≡ true → question7 (load l i) ≡ false → FitWords (load l i .moves)
   unfolding fits question7 load
-  loaded k l i e b = fit-few w k (load l i .moves) (first-sized l i (movesAt l i)) (few-moves w s _ (load l i) b e)
+  loaded k l i e b = fit-few w k (load l i .moves) (first-sized l i (movesAt l i)) (few-moves w (views s i) s _ (load l i) b e)
 
   -- a turn whose questions are all answered yes
-  pub act-leaves : maxMoves w ≤ mostMoves → (i : ℕ) (a : Areas) → TurnAsked w s i a 0 → Leaves w s (memoryOf a) (act w s (recordOf a i) (memoryOf a))
+  pub act-leaves : maxMoves w ≤ mostMoves → (i : ℕ) (a : Areas) → TurnAsked w s i a 0 → Leaves w s (memoryOf a) (act w (views s i) s (recordOf a i) (memoryOf a))
   unfolding act question6 question9
   act-leaves k i a y =
       let r : Record = recordOf a i in
-      kind-leaves w k s (y .three) (r .head) (memoryOf a) (r .head .kind) (r .moves) (loaded k (a .workers) i (both-left _ _ (y .six)) (y .busy)) (both-right _ _ (y .six)) (first-later 9 _ _ (λ z. omega arith) (y .nine) .0)
+      kind-leaves w k s (y .three) (views s i) (r .head) (memoryOf a) (r .head .kind) (r .moves) (loaded k (a .workers) i (both-left _ _ (y .six)) (y .busy)) (both-right _ _ (y .six)) (first-later 9 _ _ (λ z. omega arith) (y .nine) .0)
 
   -- a turn leaves the excess and the sizes
   record Turned (a : Areas) (r : Result) : Type 0 where
@@ -114,7 +114,7 @@ module _ (w : ℕ) (s : Settings) where
           let y = turn-asked w s i a (λ k l h z. omega arith) e in
           record { areas = with-record w s i _ a (fit-none) (y .four); sizes = sizes-same s }
 
-      is-taken : firstNo (turnQuestions w s i a) ≡ 0 → Turned a (taken (act w s (recordOf a i) (memoryOf a)) i (a .workers))
+      is-taken : firstNo (turnQuestions w s i a) ≡ 0 → Turned a (taken (act w (views s i) s (recordOf a i) (memoryOf a)) i (a .workers))
       is-taken e =
           let y = turn-asked w s i a (λ k l h z. omega arith) e in
           let t = act-leaves (few (y .one)) i a y in
@@ -125,7 +125,7 @@ module _ (w : ℕ) (s : Settings) where
 
 -- sizes that stay twice stay
 sizes-then : {s s′ s″ : Settings} → SameSizes s s′ → SameSizes s′ s″ → SameSizes s s″
-sizes-then p q = record { width-is = q .width-is ∙ p .width-is; workers-is = q .workers-is ∙ p .workers-is; limit-is = q .limit-is ∙ p .limit-is; nodes-is = q .nodes-is ∙ p .nodes-is }
+sizes-then p q = record { width-is = q .width-is ∙ p .width-is; workers-is = q .workers-is ∙ p .workers-is; limit-is = q .limit-is ∙ p .limit-is; nodes-is = q .nodes-is ∙ p .nodes-is; viewers-is = q .viewers-is ∙ p .viewers-is }
 
 -- the entries of a list that are reached
 end-untouched : (w : ℕ) → maxMoves w ≤ mostMoves → (s : Settings) (l : List ℕ) (n : ℕ) (x : State) → SameSizes s (x .settings) → Untouched w s (x .areas) (endState w x (visits w l n x) .areas)

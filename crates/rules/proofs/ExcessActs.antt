@@ -28,7 +28,7 @@ use Rattle.rules.specs.Steps.{Step, step, expected, tookNode, tookLevel,
 use Rattle.rules.specs.Searching as searching
 use Rattle.rules.specs.Moving as moving
 use Rattle.rules.specs.Acts.{inner, outer, actBy}
-use Rattle.rules.specs.Asked.{picksIn, spare, levelLeft, moveLeft, exchanges, takes, standsAt, standsSetting, standsWith, takesLevel, picksWith, puts, appends, closes, picksHome, moveEnds, setNexts, setEntry, setPuts, setAppends, setCloses, takesNode, nodeLeft, readsBy}
+use Rattle.rules.specs.Asked.{picksIn, spare, levelLeft, moveLeft, exchanges, takes, standsAt, standsSetting, standsWith, takesLevel, picksWith, puts, appends, closes, picksHome, moveEnds, setNexts, setEntry, setPuts, setAppends, setCloses, nodeLeft, readsBy}
 use Rattle.rules.proofs.Exchanging.{exchange-both}
 use Rattle.rules.proofs.Invariant.{SameSizes}
 use Rattle.rules.proofs.ExcessWords.{same-refl, same-node, same-level, SameMemory, memory-refl, CellBelow, digit-below, same-cell}
@@ -42,15 +42,15 @@ pub record Leaves (w : ℕ) (s : Settings) (m : Memory) (t : Step) : Type 0 wher
 
 -- the sizes stay, also where one more node or level is taken
 pub sizes-same : (s : Settings) → SameSizes s s
-sizes-same s = record { width-is = refl; workers-is = refl; limit-is = refl; nodes-is = refl }
+sizes-same s = record { width-is = refl; workers-is = refl; limit-is = refl; nodes-is = refl; viewers-is = refl }
 
 sizes-node : (s : Settings) → SameSizes s (tookNode s)
 unfolding tookNode
-sizes-node s = record { width-is = refl; workers-is = refl; limit-is = refl; nodes-is = refl }
+sizes-node s = record { width-is = refl; workers-is = refl; limit-is = refl; nodes-is = refl; viewers-is = refl }
 
 sizes-level : (s : Settings) → SameSizes s (tookLevel s)
 unfolding tookLevel
-sizes-level s = record { width-is = refl; workers-is = refl; limit-is = refl; nodes-is = refl }
+sizes-level s = record { width-is = refl; workers-is = refl; limit-is = refl; nodes-is = refl; viewers-is = refl }
 
 -- a spare number (held, plus 1) lies below what is taken
 spare-below : {held taken size : ℕ} → eqb held 0 ≡ false → held ≤ taken → taken ≤ size → held - 1 < size
@@ -84,12 +84,16 @@ module _ (w : ℕ) (few : maxMoves w ≤ mostMoves) (s : Settings) (q : question
   stands-below h e = node-below (both-right _ _ e)
 
   -- the steps of searching and moving
-  module _ (h : Head) (m : Memory) where
+  module _ (looks : Bool) (h : Head) (m : Memory) where
     writes : {a : Answer} {h′ : Head} {ms : List Move} {m′ : Memory} → SameMemory w s m m′ → FitWords ms → Leaves w s m (step a s h′ ms m′)
     writes k f = record { memory = k; moves = f; sizes = sizes-same s }
 
     still : {a : Answer} {h′ : Head} {ms : List Move} → FitWords ms → Leaves w s m (step a s h′ ms m)
     still = writes (memory-refl w s m)
+
+    viewed-leaves : (h′ : Head) → Leaves w s m (searching.viewed looks s h′ m)
+    unfolding searching.viewed
+    viewed-leaves h′ = pick-both (Leaves w s m) _ (λ e. still (fit-none)) (λ e. still (fit-none))
 
     met-leaves : (c g word : ℕ) → Leaves w s m (searching.met s h c g word m)
     unfolding searching.met searching.metNode
@@ -150,14 +154,14 @@ module _ (w : ℕ) (few : maxMoves w ≤ mostMoves) (s : Settings) (q : question
     inside ms f asks y e = pushed w few ms _ _ f (ltb-true _ _ (sym (pick-true _ _ _ e) ∙ y))
 
     -- by kind
-    pub kind-leaves : (k : Kind) (ms : List Move) → FitWords ms → readsBy k w s h ms m ≡ true → pick (takesNode k) (nodeLeft s h) true ≡ true → Leaves w s m (actBy k w s h ms m)
-    unfolding actBy readsBy takesNode kindNo pick searching.look searching.take searching.put searching.entryOf searching.read searching.readWord searching.tail searching.takeTail searching.append searching.level searching.close searching.follow searching.followWord moving.chainHead moving.chainNext moving.setNext moving.setLook moving.setPut moving.setCellOf moving.setRead moving.setReadWord moving.setMet moving.setTail moving.setAppend moving.setLevel moving.setClose moving.setFollow moving.setFollowWord moving.moveEnd moving.homeCell puts picksWith appends closes standsWith standsSetting setNexts setEntry setPuts setAppends setCloses moveEnds picksHome
+    pub kind-leaves : (k : Kind) (ms : List Move) → FitWords ms → readsBy k w s h ms m ≡ true → pick (searching.takesNode k) (nodeLeft s h) true ≡ true → Leaves w s m (actBy k w looks s h ms m)
+    unfolding actBy readsBy searching.takesNode kindNo pick searching.look searching.take searching.put searching.entryOf searching.read searching.readWord searching.tail searching.takeTail searching.append searching.level searching.close searching.follow searching.followWord moving.chainHead moving.chainNext moving.setNext moving.setLook moving.setPut moving.setCellOf moving.setRead moving.setReadWord moving.setMet moving.setTail moving.setAppend moving.setLevel moving.setClose moving.setFollow moving.setFollowWord moving.moveEnd moving.homeCell puts picksWith appends closes standsWith standsSetting setNexts setEntry setPuts setAppends setCloses moveEnds picksHome
     kind-leaves Idle ms f y n = still f
-    kind-leaves Look ms f y n = still (fit-none)
+    kind-leaves Look ms f y n = viewed-leaves _
     kind-leaves Take ms f y n = take-leaves Put y n
     kind-leaves Put ms f y n = placed-leaves _ _ (entry-below _ _ _ (both-left _ _ (both-left _ _ y))) (met-leaves _ _ _)
     kind-leaves Read ms f y n = met-leaves _ _ _
-    kind-leaves Tail ms f y n = still (fit-none)
+    kind-leaves Tail ms f y n = viewed-leaves _
     kind-leaves TakeTail ms f y n = take-leaves Append y n
     kind-leaves Append ms f y n = placed-leaves _ (Next (h .node)) (stands-below h (both-left _ _ (both-left _ _ y))) (met-leaves _ _ _)
     kind-leaves Level ms f y n = take-level-leaves Close [] (fit-none) y

@@ -3,7 +3,7 @@
 use Prim.Native.Nat.{ℕ, _+_, _*_, _≤_, _<_}
 use mathlib.Core.Path.{_≡_, refl, sym, _∙_}
 use mathlib.Core.Logic.{_⊎_, inl, inr}
-use mathlib.Core.Bool.{true, false}
+use mathlib.Core.Bool.{Bool, true, false}
 use mathlib.Core.List.{List, [], _∷_}
 use native.Mathlib.Omega.{arith}
 use lib.Dec.{eqb, leb}
@@ -14,7 +14,7 @@ use Rattle.settings.specs.Sizes.{headWords, moveWords, maxMoves, mostMoves, wor
 use Rattle.settings.specs.declared.Settings.{Settings}
 use Rattle.record.specs.declared.Move.{Move}
 use Rattle.record.specs.Layout.{Record, newMove, workerPlace, storeHead, store}
-use Rattle.record.specs.Fits.{movingFits, fitsBy}
+use Rattle.record.specs.Fits.{movingFits, fitsBy, roleFits}
 use Rattle.record.proofs.Apart.{before, after, place-next, room}
 use Rattle.record.proofs.Pieces.{AllSized, new-sized, moves-outside, head-outside}
 use Rattle.record.proofs.Records.{length-store}
@@ -52,13 +52,13 @@ pub fit-few : (w : ℕ) → maxMoves w ≤ mostMoves → (ms : List Move) → Al
 fit-few w k ms z l = record { sized = z; room = let r = room in omega arith }
 
 -- a record that fits, of a worker that is not idle, has few enough
-pub few-moves : (w : ℕ) (s : Settings) (k : ℕ) (r : Record) → eqb k 0 ≡ false → fitsBy w s k r ≡ true → length (r .moves) ≤ maxMoves w
+pub few-moves : (w : ℕ) (v : Bool) (s : Settings) (k : ℕ) (r : Record) → eqb k 0 ≡ false → fitsBy w v s k r ≡ true → length (r .moves) ≤ maxMoves w
 unfolding fitsBy movingFits
-few-moves w s k r z e =
+few-moves w v s k r z e =
     pick-both (λ b. b ≡ true → length (r .moves) ≤ maxMoves w) (leb k 10)
     (λ t y. let n : length (r .moves) ≡ 0 = eqb-true _ _ (both-right _ _ y) in omega arith)
     (λ t. pick-both (λ b. b ≡ true → length (r .moves) ≤ maxMoves w) (leb k 22) (λ u y. moving (both-right _ _ y)) (λ u y. absurd (true-false (sym y))))
-    (sym (pick-false _ _ _ z) ∙ e)
+    (both-right (roleFits v k) _ (sym (pick-false _ _ _ z) ∙ e))
   where
     moving : movingFits w s k (r .moves) ≡ true → length (r .moves) ≤ maxMoves w
     moving = pick-both (λ b. b ≡ true → length (r .moves) ≤ maxMoves w) (leb (length (r .moves)) (maxMoves w)) (λ t y. leb-true _ _ t) (λ t y. absurd (true-false (sym y)))

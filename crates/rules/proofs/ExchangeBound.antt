@@ -3,15 +3,14 @@
 use Prim.Native.Nat.{ℕ, zero, suc, _+_, _*_, _-_, _≤_, _<_}
 use mathlib.Core.Path.{_≡_, refl, sym, ap, subst, _∙_}
 use mathlib.Core.Logic.{_≢_, inl, inr}
+use mathlib.Core.Bool.{Bool}
 use mathlib.Core.List.{List, [], _∷_}
 use native.Mathlib.Nat.{mul-suc}
 use native.Mathlib.Decide.{ℕ-discrete, decLt}
 use native.Mathlib.Omega.{arith}
 use Rattle.words.specs.Choice.{pick}
-use Rattle.words.proofs.Choice.{pick-both, both-left, both-right}
-use Rattle.settings.specs.Sizes.{maxWorkers, question1}
+use Rattle.words.proofs.Choice.{pick-both}
 use Rattle.settings.specs.declared.Settings.{Settings}
-use Rattle.settings.proofs.Laws.{within-true}
 use Rattle.areas.specs.Memory.{Areas}
 use Rattle.record.specs.declared.Exchange.{Exchange}
 use Rattle.rules.specs.Operations.{opening, start, turn}
@@ -34,7 +33,7 @@ use Rattle.rules.proofs.Opened.{opened, fine-opened}
 use Rattle.rules.proofs.Theorem.{opening-yes}
 use Rattle.rules.proofs.OneTurn.{turn-leaves}
 use Rattle.rules.proofs.TurnEvent.{turn-open}
-use Rattle.rules.proofs.FineQuestions.{yes-1, worker-of}
+use Rattle.rules.proofs.FineQuestions.{worker-of}
 use Rattle.rules.proofs.Operated.{Comes, ComesAt, comes-width, began-width, here-width, comes-opened, comes-all}
 use Rattle.rules.proofs.Exchanges.{none-failed}
 use Rattle.rules.proofs.ExchangeCounts.{counts}
@@ -49,6 +48,17 @@ sums p f d f′ d′ D D′ h a b = by (ℕ-discrete d 0)
     by (yes z) = let k = a z in rw z (omega arith)
     by (no z) = let (one, none, l) = b z in let m = mul-suc (p - 1) d′ in rw one (omega arith)
 
+-- no placing worker: no exchange is done
+none-done : (p d d′ : ℕ) {D : ℕ} → p ≡ 0 → (d ≢ 0 → suc D ≤ p) → d′ ≡ 0 → d + d′ ≡ 0
+none-done p d d′ e h z = by (ℕ-discrete d 0)
+  where
+    by : Dec (d ≡ 0) → d + d′ ≡ 0
+    by (yes y) = omega arith
+    by (no y) = let l = h y in absurd (omega arith)
+
+none-fails : (p f d : ℕ) → f ≤ (p - 1) * d + 0 → p ≡ 0 → f ≡ 0
+none-fails p f d b e = let c : f ≤ (0 - 1) * d + 0 = rw e at b in omega arith
+
 -- one placing worker
 one-fails : (p f d : ℕ) → f ≤ (p - 1) * d + 0 → p ≡ 1 → f ≡ 0
 one-fails p f d b e = let c : f ≤ (1 - 1) * d + 0 = rw e at b in omega arith
@@ -62,14 +72,21 @@ record Run (w : ℕ) (s₀ : Settings) (es : List Event) (x : State) (D : ℕ) :
   workers : ℕ → Worker
   fine : Fine w s₀ (stateAfter w es x) world workers
   bound : failures w es x ≤ (placing s₀ - 1) * successes w es x + D
+  none : placing s₀ ≡ 0 → successes w es x ≡ 0
 
 runs : (w : ℕ) (s₀ : Settings) (es : List Event) (x : State) (W : WorldOf w s₀) (ws : ℕ → Worker) → Fine w s₀ x W ws → Run w s₀ es x (doomedAmong (placing s₀) W ws)
-unfolding total stateAfter placing
-runs w s₀ [] x W ws F = record { world = W; workers = ws; fine = F; bound = omega arith }
+unfolding total stateAfter
+runs w s₀ [] x W ws F = record { world = W; workers = ws; fine = F; bound = omega arith; none = λ e. refl }
 runs w s₀ (e ∷ es) x W ws F =
     let c = event-counted F e in
     let r = runs w s₀ es (after (happens w e x)) (c .world) (c .workers) (c .fine) in
-    record { world = r .world; workers = r .workers; fine = r .fine; bound = sums (s₀ .workers) _ _ _ _ _ _ (r .bound) (c .where-none) (c .where-one) }
+    record {
+      world = r .world;
+      workers = r .workers;
+      fine = r .fine;
+      bound = sums (placing s₀) _ _ _ _ _ _ (r .bound) (c .where-none) (c .where-one);
+      none = λ p. none-done (placing s₀) _ _ p (λ z. c .where-one z .2) (r .none p);
+    }
 
 -- after an opening nobody is doomed
 opened-runs : (w : ℕ) → Width w → (s : Settings) (a : Areas) → opening w s a .reply .number ≡ 0 → (es : List Event) → Run w s es (after (opening w s a)) 0
@@ -78,7 +95,7 @@ opened-runs w width s a z es =
     let q = opening-yes w s a y in
     let r = runs w s es _ _ _ (fine-opened width s a (q .0) (q .1)) in
     let n = none-doomed (opened width s a (q .0) (q .1)) (placing s) in
-    rw (opening-done w s a z) (record { world = r .world; workers = r .workers; fine = r .fine; bound = let b = r .bound in omega arith })
+    rw (opening-done w s a z) (record { world = r .world; workers = r .workers; fine = r .fine; bound = let b = r .bound in omega arith; none = r .none })
 
 -- A worker of the table that has the turns to itself fails at most as often as it is doomed.
 inside-fails : (w : ℕ) (s₀ : Settings) (i k : ℕ) (x : State) (W : WorldOf w s₀) (ws : ℕ → Worker) → Fine w s₀ x W ws → failures w (turnsOf i k) x ≤ dooms W (ws i .key) (ws i .act)
@@ -118,20 +135,15 @@ module _ {w : ℕ} where
   -- the number of placing workers stays
   same-placing : {s₀ : Settings} {x : State} {W : WorldOf w s₀} {ws : ℕ → Worker} → Fine w s₀ x W ws → placing (x .settings) ≡ placing s₀
   unfolding placing
-  same-placing F = F .table .same .workers-is
-
-  -- there is one
-  some-placing : {s₀ : Settings} {x : State} {W : WorldOf w s₀} {ws : ℕ → Worker} → Fine w s₀ x W ws → placing (x .settings) ≢ 0
-  unfolding placing question1
-  some-placing {x = x} F z = let b = within-true (x .settings .workers) maxWorkers (both-left _ _ (both-right _ _ (yes-1 F))) .low in omega arith
+  same-placing F = rw (F .table .same .workers-is, F .table .same .viewers-is) refl
 
   -- a start leaves its worker free
-  started-fails : {s₀ : Settings} {x : State} {W : WorldOf w s₀} {ws : ℕ → Worker} → Fine w s₀ x W ws → (i row column k : ℕ) → start w (x .settings) i row column (x .areas) .reply .number ≡ 0 → failures w (turnsOf i k) (after (start w (x .settings) i row column (x .areas))) ≡ 0
-  started-fails {s₀} {x} {W} {ws} F i row column k z =
-      let y = start-yes w x i row column (refuses-start w (x .settings) i row column (x .areas) .numbered .carried .0 z) in
+  started-fails : {s₀ : Settings} {x : State} {W : WorldOf w s₀} {ws : ℕ → Worker} → Fine w s₀ x W ws → (looks : Bool) (i row column k : ℕ) → start w (x .settings) looks i row column (x .areas) .reply .number ≡ 0 → failures w (turnsOf i k) (after (start w (x .settings) looks i row column (x .areas))) ≡ 0
+  started-fails {s₀} {x} {W} {ws} F looks i row column k z =
+      let y = start-yes w x looks i row column (refuses-start w (x .settings) looks i row column (x .areas) .numbered .carried .0 z) in
       let h = worker-of F (y .below) in
       let c = starter F i row column h (y .inside) in
-      rw (start-done w (x .settings) i row column (x .areas) z)
+      rw (start-done w (x .settings) looks i row column (x .areas) z)
       (none-of (inside-fails w s₀ i k _ W (upd ws i c) (fine-started F i row column h (y .inside))) (rw (upd-same ws i c) refl))
 
 -- of a state that came of a carried out opening
@@ -140,12 +152,12 @@ unfolding performs
 bounded-at {x} c₀ os =
     record {
       bound = rw (sum failedIn, sum doneIn, same-placing fine) (omega (arith, r .bound));
-      none = λ e. absurd (some-placing fine e);
+      none = λ e. let p = sym (same-placing fine) ∙ e in (rw (sum failedIn) (none-fails _ _ _ (r .bound) p), rw (sum doneIn) (r .none p));
       single = λ e. rw (sum failedIn) (one-fails _ _ _ (r .bound) (sym (same-placing fine) ∙ e));
       alone = λ i k. subst (λ (v : ℕ). failures v (turnsOf i k) left ≤ pick (doomed v i left) 1 0) (sym here) (alone-fails fine i k);
-      started = λ i row column k. subst
-          (λ (v : ℕ). start v (left .settings) i row column (left .areas) .reply .number ≡ 0 → failures v (turnsOf i k) (after (start v (left .settings) i row column (left .areas))) ≡ 0) (sym here)
-          (started-fails fine i row column k);
+      started = λ looks i row column k. subst
+          (λ (v : ℕ). start v (left .settings) looks i row column (left .areas) .reply .number ≡ 0 → failures v (turnsOf i k) (after (start v (left .settings) looks i row column (left .areas))) ≡ 0) (sym here)
+          (started-fails fine looks i row column k);
     }
   where
     left : State

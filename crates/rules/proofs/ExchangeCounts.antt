@@ -84,7 +84,7 @@ by-kind w h vs m {k} {f} {d} {o} e c = subst (λ j. Counts w h m (commits j w h 
 
 idle-counts : (w : ℕ) (h : Head) (vs : List Move) (m : Memory) → Doing h vs idle → Counts w h m (commits (h .kind) w h vs m) 0 0 0
 unfolding commits
-idle-counts w h vs m (rests k v n) = by-kind w h vs m k (counts-free w h m)
+idle-counts w h vs m (rests k v) = by-kind w h vs m k (counts-free w h m)
 
 module _ {w : ℕ} {s₀ s : Settings} {m : Memory} {W : WorldOf w s₀} {ws : ℕ → Worker} {i : ℕ} where
   -- a phase of a search

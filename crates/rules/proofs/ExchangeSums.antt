@@ -48,7 +48,7 @@ module _ (f : Exchange → ℕ) where
   one-sum : (o : Operation) (h : Since) (x : State) → ComesAt h x → pick (begins o x) 0 (noted h) + total f (x .settings .width) (eventsOf o x) x ≡ noted (since o x h)
   unfolding begins since eventsOf pick
   one-sum (opens s) h x c = opened-sum (eqb (opening (s .width) s (x .areas) .reply .number) 0) h (after (opening (s .width) s (x .areas))) (x .settings .width) x
-  one-sum (starts i row column) h x c = more-sum h _ x c
+  one-sum (starts looks i row column) h x c = more-sum h _ x c
   one-sum (turns i) h x c = more-sum h _ x c
   one-sum (lists l limit) h x c = more-sum h _ x c
   one-sum (asks i) h x c = let z = none-total (x .settings .width) x in omega arith

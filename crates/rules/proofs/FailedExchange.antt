@@ -16,7 +16,7 @@ use Rattle.record.specs.declared.Head.{Head}
 use Rattle.record.specs.declared.Move.{Move}
 use Rattle.record.specs.Kinds.{kindNo}
 use Rattle.record.specs.Layout.{record′}
-use Rattle.record.specs.Fits.{onChain, hasNode, callFits, innerFits, movesFit, movingFits, fitsBy, fits}
+use Rattle.record.specs.Fits.{onChain, hasNode, callFits, innerFits, movesFit, movingFits, roleFits, fitsBy, fits}
 use Rattle.rules.specs.Heads.{to, toLevel, toNode, ended}
 use Rattle.rules.specs.Steps.{Step, expected, exchanging, closed}
 use Rattle.rules.specs.Searching as searching
@@ -47,30 +47,30 @@ moves-alike s k j (v ∷ ms) e = rw e refl
 -- a record fits its layout with either kind
 module _ (w : ℕ) (s : Settings) (h : Head) (ms : List Move) where
   abbrev Alike : Kind → Kind → Type 0
-  Alike k j = fits w s (record′ (to k h) ms) ≡ fits w s (record′ (to j h) ms)
+  Alike k j = fits w false s (record′ (to k h) ms) ≡ fits w false s (record′ (to j h) ms)
 
   put-fits : Alike Put Read
-  unfolding fits fitsBy callFits onChain kindNo to both pick
+  unfolding fits fitsBy roleFits callFits onChain kindNo to both pick
   put-fits = refl
 
   append-fits : Alike Append Follow
-  unfolding fits fitsBy callFits onChain kindNo to both pick
+  unfolding fits fitsBy roleFits callFits onChain kindNo to both pick
   append-fits = refl
 
   close-fits : Alike Close Follow
-  unfolding fits fitsBy callFits onChain kindNo to both pick
+  unfolding fits fitsBy roleFits callFits onChain kindNo to both pick
   close-fits = refl
 
   set-put-fits : Alike SetPut SetRead
-  unfolding fits fitsBy callFits movingFits onChain hasNode kindNo to both pick
+  unfolding fits fitsBy roleFits callFits movingFits onChain hasNode kindNo to both pick
   set-put-fits = rw (moves-alike s 15 16 ms refl) refl
 
   set-append-fits : Alike SetAppend SetFollow
-  unfolding fits fitsBy callFits movingFits onChain hasNode kindNo to both pick
+  unfolding fits fitsBy roleFits callFits movingFits onChain hasNode kindNo to both pick
   set-append-fits = rw (moves-alike s 18 21 ms refl) refl
 
   set-close-fits : Alike SetClose SetFollow
-  unfolding fits fitsBy callFits movingFits onChain hasNode kindNo to both pick
+  unfolding fits fitsBy roleFits callFits movingFits onChain hasNode kindNo to both pick
   set-close-fits = rw (moves-alike s 20 21 ms refl) refl
 
 module _ (w : ℕ) (s : Settings) (h : Head) (m : Memory) where
@@ -107,7 +107,7 @@ module _ (w : ℕ) (s : Settings) (h : Head) (m : Memory) where
 
 pub failed-exchange : (w : ℕ) → FailedExchange w
 unfolding act actBy question6 readsBy to toLevel toNode ended cellAt expected closed standsAt standsSetting standsWith picksWith searching.entryOf searching.placed searching.put searching.append searching.close searching.read searching.readWord searching.follow searching.followWord searching.met searching.metNode moving.setCellOf moving.setNode moving.setPut moving.setAppend moving.setClose moving.setRead moving.setReadWord moving.setFollow moving.setFollowWord moving.setMet puts reads appends closes follows followsRef setFollowsRef setEntry setLooks setPuts setAppends setCloses setFollows readsRef
-failed-exchange w s h ms m k again x own put e =
+failed-exchange w looks s h ms m k again x own put e =
     let t = fails w s (to k h) m _ _ _ _ e in
     record {
       acts = t;
@@ -115,7 +115,7 @@ failed-exchange w s h ms m k again x own put e =
       level-held = ap (λ (u : Step). u .record′ .head .«held_level») t ∙ level-met w s (to k h) m _ _ _;
       asks = turned _ _ _ _ _ _ (put-fits w s h ms) (asked w s (to k h) m _ _ _ e);
     }
-failed-exchange w s h ms m k again x own append e =
+failed-exchange w looks s h ms m k again x own append e =
     let t = fails w s (to k h) m _ _ _ _ e in
     record {
       acts = t;
@@ -123,7 +123,7 @@ failed-exchange w s h ms m k again x own append e =
       level-held = ap (λ (u : Step). u .record′ .head .«held_level») t ∙ level-met w s (to k h) m _ _ _;
       asks = turned _ _ _ _ _ _ (append-fits w s h ms) (asked w s (to k h) m _ _ _ e);
     }
-failed-exchange w s h ms m k again x own close e =
+failed-exchange w looks s h ms m k again x own close e =
     let t = fails w s (to k h) m _ _ _ _ e in
     record {
       acts = t;
@@ -131,7 +131,7 @@ failed-exchange w s h ms m k again x own close e =
       level-held = ap (λ (u : Step). u .record′ .head .«held_level») t ∙ level-met w s (to k h) m _ _ _;
       asks = turned _ _ _ _ _ _ (close-fits w s h ms) (asked w s (to k h) m _ _ _ e);
     }
-failed-exchange w s h ms m k again x own set-put e =
+failed-exchange w looks s h ms m k again x own set-put e =
     let t = fails w s (to k h) m _ _ _ _ e in
     record {
       acts = t;
@@ -139,7 +139,7 @@ failed-exchange w s h ms m k again x own set-put e =
       level-held = ap (λ (u : Step). u .record′ .head .«held_level») t ∙ level-set w s (to k h) m (inner ms) (outer ms) _ _ _;
       asks = plain _ _ _ _ _ (set-put-fits w s h ms) (asked w s (to k h) m _ _ _ e);
     }
-failed-exchange w s h ms m k again x own set-append e =
+failed-exchange w looks s h ms m k again x own set-append e =
     let t = fails w s (to k h) m _ _ _ _ e in
     record {
       acts = t;
@@ -147,7 +147,7 @@ failed-exchange w s h ms m k again x own set-append e =
       level-held = ap (λ (u : Step). u .record′ .head .«held_level») t ∙ level-set w s (to k h) m (inner ms) (outer ms) _ _ _;
       asks = turned _ _ _ _ _ _ (set-append-fits w s h ms) (asked w s (to k h) m _ _ _ e);
     }
-failed-exchange w s h ms m k again x own set-close e =
+failed-exchange w looks s h ms m k again x own set-close e =
     let t = fails w s (to k h) m _ _ _ _ e in
     record {
       acts = t;

@@ -21,7 +21,7 @@ module _ {w : ℕ} {s₀ : Settings} {x : State} {W : WorldOf w s₀} {ws : ℕ 
 
   pub yes-1 : question1 (x .settings) ≡ true
   unfolding question1
-  yes-1 = let S = F .table .same in rw (S .width-is, S .workers-is, S .limit-is, S .nodes-is) (F .table .ranges)
+  yes-1 = let S = F .table .same in rw (S .width-is, S .workers-is, S .limit-is, S .nodes-is, S .viewers-is) (F .table .ranges)
 
   pub yes-2 : question2Of w (x .settings) (x .areas) ≡ true
   unfolding question2

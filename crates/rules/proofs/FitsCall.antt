@@ -2,7 +2,7 @@
 -- Relies on what a head shows and on the theory's counts.
 use Prim.Native.Nat.{ℕ, _+_, _≤_, _<_}
 use mathlib.Core.Path.{_≡_, refl, ap, _∙_}
-use mathlib.Core.Bool.{true, false}
+use mathlib.Core.Bool.{Bool, true, false}
 use mathlib.Core.List.{[]}
 use lib.ListN.{length}
 use native.Mathlib.Omega.{arith}
@@ -17,7 +17,7 @@ use Rattle.record.specs.declared.Kind.the-variants.{Look, Take, Put, Read, Tail
 use Rattle.record.specs.declared.Head.{Head}
 use Rattle.record.specs.Kinds.{kindNo}
 use Rattle.record.specs.Layout.{Record}
-use Rattle.record.specs.Fits.{onChain, callFits, fitsBy}
+use Rattle.record.specs.Fits.{onChain, callFits, roleFits, fitsBy}
 use Rattle.trie.proofs.Digits.{Dims}
 use Rattle.trie.proofs.World.{World}
 use Rattle.trie.proofs.Stand.{Pos, at-node, CountOk}
@@ -96,6 +96,6 @@ pub call-fits : (s : Settings) (h : Head) (k : Kind) → h .pixel ≤ maxPixel �
 unfolding callFits CountFits
 call-fits s h k l c = both-true (le-leb _ _ l) (pick-both (λ b. b ≡ true) (onChain (kindNo k)) c (λ e. refl))
 
-pub searching-fits : (w : ℕ) (s : Settings) (r : Record) (k : ℕ) → 0 < k → k ≤ 10 → callFits s k (r .head) ≡ true → r .moves ≡ [] → fitsBy w s k r ≡ true
+pub searching-fits : (w : ℕ) (v : Bool) (s : Settings) (r : Record) (k : ℕ) → 0 < k → k ≤ 10 → roleFits v k ≡ true → callFits s k (r .head) ≡ true → r .moves ≡ [] → fitsBy w v s k r ≡ true
 unfolding fitsBy
-searching-fits w s r k l g c n = pick-false _ _ _ (ne-eqb k 0 (λ y. omega arith)) ∙ pick-true _ _ _ (le-leb k 10 g) ∙ both-true c (eq-eqb _ _ (ap length n))
+searching-fits w v s r k l g e c n = pick-false _ _ _ (ne-eqb k 0 (λ y. omega arith)) ∙ both-true e (pick-true _ _ _ (le-leb k 10 g) ∙ both-true c (eq-eqb _ _ (ap length n)))

@@ -3,7 +3,7 @@
 use Prim.Native.Nat.{ℕ, _+_, _-_, _≤_, _<_}
 use mathlib.Core.Path.{_≡_, refl, sym, ap, _∙_}
 use mathlib.Core.Logic.{_⊎_, inl, inr}
-use mathlib.Core.Bool.{true}
+use mathlib.Core.Bool.{Bool, true}
 use mathlib.Core.List.{List, [], _∷_, _++_}
 use lib.ListN.{length, length-append}
 use native.Mathlib.Omega.{arith}
@@ -16,7 +16,7 @@ use Rattle.settings.specs.declared.Settings.{Settings}
 use Rattle.record.specs.declared.Move.{Move}
 use Rattle.record.specs.Kinds.{kindNo}
 use Rattle.record.specs.Layout.{Record}
-use Rattle.record.specs.Fits.{hasNode, callFits, innerFits, outerFits, movesFit, movingFits, fitsBy}
+use Rattle.record.specs.Fits.{hasNode, callFits, innerFits, outerFits, movesFit, movingFits, fitsBy, roleFits}
 use Rattle.record.proofs.Pieces.{AllSized}
 use Rattle.trie.proofs.Digits.{Dims, digit-lt}
 use Rattle.trie.proofs.World.{World, Structure}
@@ -110,10 +110,10 @@ module _ {δ : Dims} {w : World δ} (S : Structure w) where
       let (l, h) = inner-low i in
       (l, h, both-true (inner-fits s (kindNo (stepKind f p)) (v .count) i) (outer-fits s e ks (framing m .around)))
 
-  pub moving-fits : (d : ℕ) (s : Settings) (r : Record) → depths d ≡ δ .depths → s .limit ≡ δ .limit → {u K : ℕ} {f : Frame} {fs : List Frame} {p : Step} → Frames (r .moves) (f ∷ fs) → Moving w u K f fs p → callFits s (kindNo (stepKind f p)) (r .head) ≡ true → fitsBy d s (kindNo (stepKind f p)) r ≡ true
+  pub moving-fits : (d : ℕ) (v : Bool) (s : Settings) (r : Record) → depths d ≡ δ .depths → s .limit ≡ δ .limit → {u K : ℕ} {f : Frame} {fs : List Frame} {p : Step} → Frames (r .moves) (f ∷ fs) → Moving w u K f fs p → roleFits v (kindNo (stepKind f p)) ≡ true → callFits s (kindNo (stepKind f p)) (r .head) ≡ true → fitsBy d v s (kindNo (stepKind f p)) r ≡ true
   unfolding fitsBy movingFits maxMoves
-  moving-fits d s r g e {f = f} {p = p} k m c =
+  moving-fits d v s r g e {f = f} {p = p} k m y c =
       let n = kindNo (stepKind f p) in
       let (l, h, t) = moves-fit s e k m in
       let few : length (r .moves) ≤ depths d - 1 = omega (arith, moves-few k m) in
-      pick-false _ _ _ (ne-eqb n 0 (λ y. omega arith)) ∙ pick-false _ _ _ (lt-leb n 10 l) ∙ pick-true _ _ _ (le-leb n 22 h) ∙ both-true c (pick-true _ _ _ (le-leb _ _ few) ∙ t)
+      pick-false _ _ _ (ne-eqb n 0 (λ y. omega arith)) ∙ both-true y (pick-false _ _ _ (lt-leb n 10 l) ∙ pick-true _ _ _ (le-leb n 22 h) ∙ both-true c (pick-true _ _ _ (le-leb _ _ few) ∙ t))

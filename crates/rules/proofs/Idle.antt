@@ -22,7 +22,7 @@ busy-acts {r} {c} k q e = by (k .doing) e
     z = eqb-false _ _ q
 
     by : {a : Act} → Doing (r .head) (r .moves) a → a ≡ idle → ⊥
-    by (rests y v n) p = z (ap kindNo y)
+    by (rests y v) p = z (ap kindNo y)
     by (searches y v n) p = let t : _≡_ {A = ℕ} 0 1 = cc in omega arith
     by (moves y v n) p = let t : _≡_ {A = ℕ} 0 1 = cc in omega arith
 
@@ -32,7 +32,7 @@ unfolding question7
 acts-busy {r} {c} k z = ne-eqb _ _ (by (k .doing) z)
   where
     by : {a : Act} → Doing (r .head) (r .moves) a → a ≢ idle → kindNo (r .head .kind) ≢ 0
-    by (rests e v n) y = λ q. y refl
+    by (rests e v) y = λ q. y refl
     by (searches {p = p} e v n) y = λ q. omega (arith, search-no p .0, ap kindNo e)
     by (moves {f = f} {s = s} e v n) y = λ q. omega (arith, step-no f s, ap kindNo e)
 
@@ -51,6 +51,6 @@ unfolding question7 kindNo
 idle-rests {r} {c} k e = by (k .doing) e
   where
     by : {a : Act} → Doing (r .head) (r .moves) a → a ≡ idle → eqb (kindNo (r .head .kind)) 0 ≡ true
-    by (rests y v n) p = eq-eqb _ _ (ap kindNo y)
+    by (rests y v) p = eq-eqb _ _ (ap kindNo y)
     by (searches y v n) p = let t : _≡_ {A = ℕ} 0 1 = cc in absurd (omega arith)
     by (moves y v n) p = let t : _≡_ {A = ℕ} 0 1 = cc in absurd (omega arith)

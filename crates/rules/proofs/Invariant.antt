@@ -1,22 +1,25 @@
 -- The invariant of a state: the words show a world, the records show its workers, the counters count, and the row reads its book.
 -- Relies on the theory's invariant, level count and row, and on what the words and records show.
 use Prim.Native.Nat.{ℕ, suc, _*_, _≤_, _<_}
-use mathlib.Core.Path.{_≡_}
+use mathlib.Core.Path.{_≡_, refl}
 use mathlib.Core.Logic.{_≢_}
-use mathlib.Core.Bool.{true}
+use mathlib.Core.Bool.{Bool, true}
 use lib.ListN.{length}
-use Rattle.settings.specs.Sizes.{question1, levelCount, workerWords}
+use Rattle.settings.specs.Sizes.{question1, levelCount, workerWords, views}
 use Rattle.settings.specs.declared.Settings.{Settings}
 use Rattle.areas.specs.Memory.{Memory}
 use Rattle.record.specs.declared.Answer.{Answer}
-use Rattle.record.specs.declared.Answer.the-variants.{Open, New, Found}
+use Rattle.record.specs.declared.Answer.the-variants.{Open, New, Found, Absent}
+use Rattle.record.specs.declared.Head.{Head}
+use Rattle.record.specs.Kinds.{kindNo}
 use Rattle.record.specs.Layout.{Record}
+use Rattle.record.specs.Fits.{roleFits, answerFits}
 use Rattle.rules.specs.Steps.{Step}
 use Rattle.rules.specs.Operations.{recordOf, memoryOf}
 use Rattle.rules.specs.Lists.{State}
 use Rattle.trie.proofs.Update.{upd}
 use Rattle.trie.proofs.Digits.{Dims}
-use Rattle.trie.proofs.World.{World, Placed}
+use Rattle.trie.proofs.World.{World, Placed, Other}
 use Rattle.trie.proofs.Evolve.{Grows}
 use Rattle.trie.proofs.Place.{place, CanPlace}
 use Rattle.trie.proofs.Fresh.{Fresh}
@@ -36,6 +39,12 @@ pub record SameSizes (s₀ s : Settings) : Type 0 where
   pub workers-is : s .workers ≡ s₀ .workers
   pub limit-is : s .limit ≡ s₀ .limit
   pub nodes-is : s .nodes ≡ s₀ .nodes
+  pub viewers-is : s .viewers ≡ s₀ .viewers
+
+-- who is a viewer stays too
+pub views-same : {s₀ s : Settings} (i : ℕ) → SameSizes s₀ s → views s i ≡ views s₀ i
+unfolding views
+views-same i e = rw (e .workers-is, e .viewers-is) refl
 
 -- the theory's world of a table with the settings s₀
 abbrev pub WorldOf : ℕ → Settings → Type 0
@@ -57,6 +66,7 @@ pub data Rowing {δ : Dims} (W W′ : World δ) (c c′ : Worker) : Answer → T
   goes : Grows W W′ → W′ .book ≡ W .book → c′ .act ≢ idle → c′ .since ≡ c .since → c′ .key ≡ c .key → Rowing W W′ c c′ Open
   ends-new : {H e n : ℕ} → CanPlace W H e n → W .pixel n ≡ c .key → W′ ≡ place W H e n → c′ .act ≡ idle → Rowing W W′ c c′ (New n)
   ends-found : {R : ℕ} → Placed W R → W .pixel R ≡ c .key → W′ ≡ W → c′ .act ≡ idle → Rowing W W′ c c′ (Found R)
+  ends-absent : ((m : ℕ) → Placed W m → Other W (c .key) m) → W′ ≡ W → c′ .act ≡ idle → Rowing W W′ c c′ Absent
 
 -- the node that a worker holds over a turn, with the nodes taken after it: the one that it held; a next number, which a call took that wanted a node; none, the node is placed
 pub data Held {δ : Dims} (W : World δ) (c : Worker) (node taken : ℕ) : Answer → Type 0 where
@@ -64,6 +74,12 @@ pub data Held {δ : Dims} (W : World δ) (c : Worker) (node taken : ℕ) : Answe
   took : {H n : ℕ} {x : Pos} → c .act ≡ searching (fetch H x) → c .node ≡ 0 → Fresh (W .nodeOwner) n → node ≡ suc n → taken ≡ suc n → Held W c node taken Open
   gave : {n : ℕ} → Fresh (W .nodeOwner) taken → c .node ≡ suc n → node ≡ 0 → Held W c node taken (New n)
   kept : {R : ℕ} → Fresh (W .nodeOwner) taken → node ≡ c .node → Held W c node taken (Found R)
+  left : Fresh (W .nodeOwner) taken → node ≡ c .node → Held W c node taken Absent
+
+-- a head is of a viewer's kind and answer, or of another worker's
+pub record Role (v : Bool) (h : Head) : Type 0 where
+  pub rest : kindNo (h .kind) ≡ 0 → answerFits v (h .answer) ≡ true
+  pub call : kindNo (h .kind) ≢ 0 → roleFits v (kindNo (h .kind)) ≡ true
 
 -- what is known where worker i, whose record is r, has a turn
 pub record At (w : ℕ) (s₀ s : Settings) (m : Memory) (W : WorldOf w s₀) (ws : ℕ → Worker) (i : ℕ) (r : Record) : Type 0 where
@@ -72,6 +88,7 @@ pub record At (w : ℕ) (s₀ s : Settings) (m : Memory) (W : WorldOf w s₀) (w
   pub levels : Levels W ws (s₀ .workers) (s .«levels_taken»)
   pub here : i < s₀ .workers
   pub matches : Matches r (ws i)
+  pub role : Role (views s₀ i) (r .head)
 
 -- what a turn of worker i has to leave
 pub record TurnOk (w : ℕ) (s₀ : Settings) (W : WorldOf w s₀) (ws : ℕ → Worker) (i : ℕ) (t : Step) : Type 0 where
@@ -95,6 +112,7 @@ pub record Fine (w : ℕ) (s₀ : Settings) (x : State) (W : WorldOf w s₀) (ws
   pub inv : Inv W ws
   pub levels : Levels W ws (s₀ .workers) (x .settings .«levels_taken»)
   pub records : (i : ℕ) → i < s₀ .workers → Matches (recordOf (x .areas) i) (ws i)
+  pub roles : (i : ℕ) → i < s₀ .workers → Role (views s₀ i) (recordOf (x .areas) i .head)
 
 pub at : {w : ℕ} {s₀ : Settings} {x : State} {W : WorldOf w s₀} {ws : ℕ → Worker} → Fine w s₀ x W ws → (i : ℕ) → i < s₀ .workers → At w s₀ (x .settings) (memoryOf (x .areas)) W ws i (recordOf (x .areas) i)
-at f i h = record { table = f .table; inv = f .inv; levels = f .levels; here = h; matches = f .records i h }
+at f i h = record { table = f .table; inv = f .inv; levels = f .levels; here = h; matches = f .records i h; role = f .roles i h }

@@ -1,9 +1,10 @@
 -- Along any sequence of starts and turns a worker's record tells what the history tells: no answer, an open call, or the answer of its newest ended call.
 -- Relies on what holds along a sequence, on that a turn's record tells its answer, and on the laws of a stored record.
+use Rattle.rules.proofs.Roles.{turn-role}
 use Prim.Native.Nat.{ℕ, _+_, _*_, _≤_, _<_}
 use mathlib.Core.Path.{_≡_, refl, sym, ap, subst, _∙_}
 use mathlib.Core.Logic.{_≢_}
-use mathlib.Core.Bool.{true, false}
+use mathlib.Core.Bool.{Bool, true, false}
 use mathlib.Core.List.{List, [], _∷_}
 use native.Mathlib.Decide.{ℕ-discrete}
 use native.Mathlib.Omega.{arith}
@@ -11,7 +12,7 @@ use lib.ListN.{length}
 use borrow.Author.Tests.{eq-eqb, ne-eqb}
 use Rattle.words.specs.Choice.{pick, every}
 use Rattle.words.proofs.Choice.{pick-both, pick-true, pick-false, both-left, both-right, both-true}
-use Rattle.settings.specs.Sizes.{question1, workerWords}
+use Rattle.settings.specs.Sizes.{question1, workerWords, views}
 use Rattle.settings.specs.declared.Settings.{Settings}
 use Rattle.settings.proofs.Laws.{room}
 use Rattle.record.specs.declared.Answer.{Answer}
@@ -45,22 +46,22 @@ use Rattle.rules.proofs.Asking.{turn-ok}
 use Rattle.rules.proofs.Along.{Along, below}
 use Rattle.rules.proofs.Opened.{opened-record, along-opened}
 use Rattle.rules.proofs.Sequence.{event-along, run-along}
-use Rattle.rules.proofs.Tells.{Said, says-open, says-new, says-found, Tells, act-tells}
+use Rattle.rules.proofs.Tells.{Said, says-open, says-new, says-found, Tells, act-tells, says-absent}
 use Rattle.rules.proofs.Theorem.{opened-width}
 
 -- the last answer after an event, by cases
 module _ (i j : ℕ) (r : Reply) (b : Answer) where
-  told-start : (row column : ℕ) → j ≡ i → r .number ≡ 0 → toldBy i (starts j row column) r b ≡ Open
+  told-start : (looks : Bool) (row column : ℕ) → j ≡ i → r .number ≡ 0 → toldBy i (starts looks j row column) r b ≡ Open
   unfolding toldBy
-  told-start row column e z = pick-true _ _ _ (eq-eqb _ _ e) ∙ pick-true _ _ _ (eq-eqb _ _ z)
+  told-start looks row column e z = pick-true _ _ _ (eq-eqb _ _ e) ∙ pick-true _ _ _ (eq-eqb _ _ z)
 
-  told-refused : (row column : ℕ) → r .number ≢ 0 → toldBy i (starts j row column) r b ≡ b
+  told-refused : (looks : Bool) (row column : ℕ) → r .number ≢ 0 → toldBy i (starts looks j row column) r b ≡ b
   unfolding toldBy
-  told-refused row column z = pick-both (λ (c : Answer). c ≡ b) _ (λ e. pick-false _ _ _ (ne-eqb _ _ z)) (λ e. refl)
+  told-refused looks row column z = pick-both (λ (c : Answer). c ≡ b) _ (λ e. pick-false _ _ _ (ne-eqb _ _ z)) (λ e. refl)
 
-  told-other-start : (row column : ℕ) → j ≢ i → toldBy i (starts j row column) r b ≡ b
+  told-other-start : (looks : Bool) (row column : ℕ) → j ≢ i → toldBy i (starts looks j row column) r b ≡ b
   unfolding toldBy
-  told-other-start row column d = pick-false _ _ _ (ne-eqb _ _ d)
+  told-other-start looks row column d = pick-false _ _ _ (ne-eqb _ _ d)
 
   told-other-turn : j ≢ i → toldBy i (turns j) r b ≡ b
   unfolding toldBy
@@ -109,6 +110,7 @@ unfolding endTold
 end-told b says-open e = sym e
 end-told b (says-new n) e = refl
 end-told b (says-found n) e = refl
+end-told b says-absent e = refl
 
 -- a record without Moves
 pub alone : (h : Head) → WellFormed (record′ h [])
@@ -149,21 +151,21 @@ module _ {w : ℕ} {s₀ : Settings} {x : State} {k : ℕ} {os : List Opened} {c
   place-room = let n = place-next here in let g = a .fine .room in let b = word-room in omega arith
 
   -- a start
-  module _ (j row column : ℕ) where
+  module _ (looks : Bool) (j row column : ℕ) where
     abbrev begun : Result
-    begun = start w (x .settings) j row column (x .areas)
+    begun = start w (x .settings) looks j row column (x .areas)
 
-    start-done-told : Dec (j ≡ i) → ToldAfter (starts j row column) (result (reply 0 Open 0 (x .settings)) (startedAreas j row column (x .areas)))
+    start-done-told : Dec (j ≡ i) → ToldAfter (starts looks j row column) (result (reply 0 Open 0 (x .settings)) (startedAreas j row column (x .areas)))
     unfolding startedAreas
-    start-done-told (yes e) = ap lastOf (own-head w _ i j (x .areas .workers) e place-room) ∙ (started-tells _ _ ∙ sym (told-start i j _ _ row column e refl))
-    start-done-told (no d) = ap lastOf (other-head w _ i j (x .areas .workers) (alone _) d) ∙ sym (told-other-start i j _ _ row column d)
+    start-done-told (yes e) = ap lastOf (own-head w _ i j (x .areas .workers) e place-room) ∙ (started-tells _ _ ∙ sym (told-start i j _ _ looks row column e refl))
+    start-done-told (no d) = ap lastOf (other-head w _ i j (x .areas .workers) (alone _) d) ∙ sym (told-other-start i j _ _ looks row column d)
 
-    start-told : ToldAfter (starts j row column) begun
+    start-told : ToldAfter (starts looks j row column) begun
     start-told = by (ℕ-discrete (begun .reply .number) 0)
       where
-        by : Dec (begun .reply .number ≡ 0) → ToldAfter (starts j row column) begun
-        by (yes z) = subst (ToldAfter (starts j row column)) (sym (start-done w (x .settings) j row column (x .areas) z)) (start-done-told (ℕ-discrete j i))
-        by (no z) = subst (ToldAfter (starts j row column)) (sym (refuses-start w (x .settings) j row column (x .areas) .unchanged z .0)) (sym (told-refused i j _ _ row column z))
+        by : Dec (begun .reply .number ≡ 0) → ToldAfter (starts looks j row column) begun
+        by (yes z) = subst (ToldAfter (starts looks j row column)) (sym (start-done w (x .settings) looks j row column (x .areas) z)) (start-done-told (ℕ-discrete j i))
+        by (no z) = subst (ToldAfter (starts looks j row column)) (sym (refuses-start w (x .settings) looks j row column (x .areas) .unchanged z .0)) (sym (told-refused i j _ _ looks row column z))
 
   -- a turn
   module _ (j : ℕ) where
@@ -171,7 +173,7 @@ module _ {w : ℕ} {s₀ : Settings} {x : State} {k : ℕ} {os : List Opened} {c
     turned = turn w (x .settings) j (x .areas)
 
     abbrev stepped : Step
-    stepped = act w (x .settings) (recordOf (x .areas) j) (memoryOf (x .areas))
+    stepped = act w (views (x .settings) j) (x .settings) (recordOf (x .areas) j) (memoryOf (x .areas))
 
     full-told : Dec (j ≡ i) → ToldAfter (turns j) (full (x .settings) j (x .areas))
     unfolding full endTold
@@ -183,7 +185,7 @@ module _ {w : ℕ} {s₀ : Settings} {x : State} {k : ℕ} {os : List Opened} {c
     formed y =
         let h = below a (y .below) in
         let K = turn-ok (at (a .fine) j h) (busy-of (recordOf (x .areas) j) (y .open8)) (y .left9) in
-        well-formed (record { table = K .table; inv = K .inv; levels = K .levels; here = h; matches = rw (upd-same (a .workers) j (K .worker)) (K .matches) })
+        well-formed (record { table = K .table; inv = K .inv; levels = K .levels; here = h; matches = rw (upd-same (a .workers) j (K .worker)) (K .matches); role = turn-role (a .fine) j h (busy-of (recordOf (x .areas) j) (y .open8)) })
 
     -- before a turn that is carried out its worker's call is open
     was-open : TurnYes w x j → j ≡ i → last x ≡ Open
@@ -192,7 +194,7 @@ module _ {w : ℕ} {s₀ : Settings} {x : State} {k : ℕ} {os : List Opened} {c
     taken-told : TurnYes w x j → Dec (j ≡ i) → ToldAfter (turns j) (taken stepped j (x .areas .workers))
     unfolding taken
     taken-told y (yes e) =
-        let k : Tells stepped = act-tells w (x .settings) (recordOf (x .areas) j) (memoryOf (x .areas)) (y .open8) in
+        let k : Tells (views (x .settings) j) stepped = act-tells w (views (x .settings) j) (x .settings) (recordOf (x .areas) j) (memoryOf (x .areas)) (y .open8) in
         ap lastOf (own-head w (stepped .record′) i j (x .areas .workers) e place-room)
         ∙ (k .answer-is ∙ (end-told (last x) (k .said) (was-open y e) ∙ sym (told-turn i j _ _ e)))
     taken-told y (no d) = ap lastOf (other-head w (stepped .record′) i j (x .areas .workers) (formed y) d) ∙ sym (told-other-turn i j _ _ d)
@@ -209,7 +211,7 @@ module _ {w : ℕ} {s₀ : Settings} {x : State} {k : ℕ} {os : List Opened} {c
 
   event-told : (e : Event) → ToldAfter e (happens w e x)
   unfolding happens
-  event-told (starts j row column) = start-told j row column
+  event-told (starts looks j row column) = start-told looks j row column
   event-told (turns j) = turn-told j
 
 -- any events more

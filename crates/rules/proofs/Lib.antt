@@ -47,6 +47,8 @@ pub mod Fitting
 pub mod Asking
 pub mod Idle
 pub mod Stored
+pub mod Tells
+pub mod Roles
 pub mod Ending
 pub mod RowBook
 pub mod RowEnds
@@ -74,7 +76,6 @@ pub mod ExchangeCounts
 pub mod ExchangeEvents
 pub mod ExchangeSums
 pub mod ExchangeBound
-pub mod Tells
 pub mod LastAnswers
 pub mod OpenCalls
 pub mod Previous
@@ -91,3 +92,5 @@ pub mod Three
 pub mod Entries
 pub mod ListEnds
 pub mod OwnExchange
+pub mod Striking
+pub mod Viewers

@@ -83,7 +83,7 @@ pub data Stepped (h : Head) : Step → Type 0 where
 
 -- what the record says that the worker does
 pub data Doing (h : Head) (vs : List Move) : Act → Type 0 where
-  rests : h .kind ≡ Idle → vs ≡ [] → h .answer ≤ 3 → Doing h vs idle
+  rests : h .kind ≡ Idle → vs ≡ [] → Doing h vs idle
   searches : {p : Phase} → h .kind ≡ searchKind p → vs ≡ [] → Phased h p → Doing h vs (searching p)
   moves : {f : Frame} {fs : List Frame} {s : Step} → h .kind ≡ stepKind f s → Frames vs (f ∷ fs) → Stepped h s → Doing h vs (moving f fs s)
 

@@ -2,7 +2,7 @@
 -- Relies on what a turn reads, and on the theory's turn.
 use Prim.Native.Nat.{ℕ}
 use mathlib.Core.Path.{_≡_, refl}
-use mathlib.Core.Bool.{true}
+use mathlib.Core.Bool.{Bool, true}
 use mathlib.Core.List.{List, _∷_}
 use Rattle.words.proofs.Choice.{both-true}
 use Rattle.settings.specs.Sizes.{levelCount}
@@ -42,9 +42,9 @@ module _ {w : ℕ} {s₀ s : Settings} {m : Memory} {W : WorldOf w s₀} {ws : �
   aim-asks (is-moving small b (aims pre k n o j c)) =
       rw (last-is on pre N n, l) (both-true (node-taken (a .table) N (not-free (last-placed (a .inv .structure) pre N k))) (level-taken (a .table) T (not-free (o .pub-at))))
 
-  pub aim-acts : ActOk W (owner i) (ws i .key) (ws i .since) (moving f fs (aim N T)) → TurnOk w s₀ W ws i (actBy SetNext w s h (v ∷ os) m)
+  pub aim-acts : (looks : Bool) → ActOk W (owner i) (ws i .key) (ws i .since) (moving f fs (aim N T)) → TurnOk w s₀ W ws i (actBy SetNext w looks s h (v ∷ os) m)
   unfolding actBy setNext inner outer
-  aim-acts (is-moving small b (aims pre k n o j c)) =
+  aim-acts looks (is-moving small b (aims pre k n o j c)) =
       let S = a .inv .structure in
       let W′ : WorldOf w s₀ = redirect W (f .home) (edge W f) (levelRef T) (W .mover) in
       let x = written (a .table) (nxt N) (lastCell W (f .home) (edge W f)) (levelRef T) (last-cell S pre N k) (next-taken (a .table) N (not-free (last-placed S pre N k))) in

@@ -2,7 +2,7 @@
 -- Relies on what a turn reads, and on the theory's step.
 use Prim.Native.Nat.{ℕ}
 use mathlib.Core.Path.{_≡_, refl, ap}
-use mathlib.Core.Bool.{true}
+use mathlib.Core.Bool.{Bool, true}
 use mathlib.Core.List.{List, _∷_}
 use Rattle.words.proofs.Choice.{both-true}
 use Rattle.settings.specs.Sizes.{levelCount}
@@ -45,9 +45,9 @@ module _ {w : ℕ} {s₀ s : Settings} {m : Memory} {W : WorldOf w s₀} {ws : �
   finish-asks (is-moving small b (finishes k n c)) =
       both-true (picks-home (a .table) (a .inv .structure) k c on js) (rw (on .child-is) (level-taken (a .table) (f .child) (not-free (frame-published (a .inv .structure) k))))
 
-  pub finish-acts : ActOk W (owner i) (ws i .key) (ws i .since) (moving f fs finish) → TurnOk w s₀ W ws i (actBy MoveEnd w s h (v ∷ os) m)
+  pub finish-acts : (looks : Bool) → ActOk W (owner i) (ws i .key) (ws i .since) (moving f fs finish) → TurnOk w s₀ W ws i (actBy MoveEnd w looks s h (v ∷ os) m)
   unfolding actBy moveEnd afterMove toLevel inner outer
-  finish-acts (is-moving small b (finishes k n c)) = by js c now (finish-next S (ws i .since) (finishes k n c))
+  finish-acts looks (is-moving small b (finishes k n c)) = by js c now (finish-next S (ws i .since) (finishes k n c))
     where
       S : Structure W
       S = a .inv .structure

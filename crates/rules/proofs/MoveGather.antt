@@ -2,7 +2,7 @@
 -- Relies on what a turn reads, and on the theory's reading of a chain.
 use Prim.Native.Nat.{ℕ, _+_, _≤_, _<_, _^_}
 use mathlib.Core.Path.{_≡_, refl, sym, ap, _∙_}
-use mathlib.Core.Bool.{true}
+use mathlib.Core.Bool.{Bool, true}
 use mathlib.Core.List.{List, [], _∷_, _++_, Memᴰ·append-left}
 use native.Mathlib.Omega.{arith}
 use lib.Dec.{leb}
@@ -123,14 +123,14 @@ module _ {w : ℕ} {s₀ s : Settings} {m : Memory} {W : WorldOf w s₀} {ws : �
           let (pre, N, q) = snoc-view (n ∷ ns) (omega arith) in
           both-true (rw (last-is on pre N (e ∙ q)) (node-taken (a .table) N (not-free (next-placed pre N (e ∙ q) o)))) (rw (next-word pre N (e ∙ q) o) (asks-word (chain o)))
 
-  pub gather-turn : Mine → TurnOk w s₀ W ws i (actBy (gatherKind (f .nodes)) w s h (v ∷ os) m)
+  pub gather-turn : (looks : Bool) → Mine → TurnOk w s₀ W ws i (actBy (gatherKind (f .nodes)) w looks s h (v ∷ os) m)
   unfolding actBy chainHead chainNext inner outer
-  gather-turn (is-moving small b k) = by (f .nodes) refl
+  gather-turn looks (is-moving small b k) = by (f .nodes) refl
     where
       o : Mine
       o = is-moving small b k
 
-      by : (ns : List ℕ) → f .nodes ≡ ns → TurnOk w s₀ W ws i (actBy (gatherKind ns) w s h (v ∷ os) m)
+      by : (ns : List ℕ) → f .nodes ≡ ns → TurnOk w s₀ W ws i (actBy (gatherKind ns) w looks s h (v ∷ os) m)
       by [] e = rw (head-word e o) (turn-word small b k (chain o))
       by (n ∷ ns) e =
           let (pre, N, q) = snoc-view (n ∷ ns) (omega arith) in

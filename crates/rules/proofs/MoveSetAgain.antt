@@ -3,7 +3,7 @@
 use Prim.Native.Nat.{ℕ}
 use mathlib.Core.Path.{_≡_, refl, ap, _∙_}
 use mathlib.Core.Logic.{_≢_}
-use mathlib.Core.Bool.{true}
+use mathlib.Core.Bool.{Bool, true}
 use mathlib.Core.List.{List, _∷_}
 use native.Mathlib.Omega.{arith}
 use Rattle.words.proofs.Choice.{pick-true, pick-false, both-true}
@@ -74,7 +74,7 @@ module _ {w : ℕ} {s₀ s : Settings} {m : Memory} {W : WorldOf w s₀} {ws : �
   unfolding setFollowWord cellAt
   follow-ok o y = again-word o y (spot-reads a (standing o))
 
-  pub again-turn : (x : Pos) (o : Setter a f fs N p T x) → word W (W .pixel N) T x ≢ levelRef T → TurnOk w s₀ W ws i (actBy (byPos SetRead SetFollow x) w s h (v ∷ os) m)
+  pub again-turn : (looks : Bool) (x : Pos) (o : Setter a f fs N p T x) → word W (W .pixel N) T x ≢ levelRef T → TurnOk w s₀ W ws i (actBy (byPos SetRead SetFollow x) w looks s h (v ∷ os) m)
   unfolding actBy setRead setFollow inner outer
-  again-turn at-entry o y = read-ok o y
-  again-turn (at-node R C) o y = follow-ok o y
+  again-turn looks at-entry o y = read-ok o y
+  again-turn looks (at-node R C) o y = follow-ok o y

@@ -2,7 +2,7 @@
 -- Relies on the taking of a level and the closing of a chain, which a search does alike, and on the nesting of frames for a Move that is left.
 use Prim.Native.Nat.{ℕ, suc, _+_, _<_}
 use mathlib.Core.Path.{_≡_, refl, sym, _∙_}
-use mathlib.Core.Bool.{true}
+use mathlib.Core.Bool.{Bool, true}
 use mathlib.Core.List.{List, _∷_}
 use native.Mathlib.Numerals.{add-one}
 use native.Mathlib.Omega.{arith}
@@ -46,9 +46,9 @@ module _ {w : ℕ} {s₀ s : Settings} {m : Memory} {W : WorldOf w s₀} {ws : �
   unfolding readsBy
   level-asks = taking.level-asks a (standing o) deep
 
-  pub level-turn : p ≡ level T (at-node R C) → TurnOk w s₀ W ws i (actBy SetLevel w s h (v ∷ os) m)
+  pub level-turn : (looks : Bool) → p ≡ level T (at-node R C) → TurnOk w s₀ W ws i (actBy SetLevel w looks s h (v ∷ os) m)
   unfolding actBy setLevel holdingLevel inner outer
-  level-turn z =
+  level-turn looks z =
       taking.level-turn a (standing o) SetClose (v ∷ os) (λ G. moving f fs (set N (shut T (at-node R C) G))) (λ G. still-moving) shows
       (λ G free others had. set-level-turn (a .inv) i (acts-by o (sets-by o (set-levels (o .setting) full deep))) free others had)
       (λ G free. rw (o .act-is, z) (record { falls = set-level-falls (a .inv .structure) (levelCount w s₀) (o .frame) (o .around) free _ _ _ (owner i) (λ y. omega arith) (o .setting .path .pub-at) (o .setting .stand); dooming = set-level-dooming (ws i .key) (a .inv .structure) free _ _ _ (owner i) (λ y. omega arith) (o .setting .path .pub-at) (o .setting .stand) }))
@@ -77,9 +77,9 @@ module _ {w : ℕ} {s₀ s : Settings} {m : Memory} {W : WorldOf w s₀} {ws : �
     close-asks =
         both-true (closing.close-asks a (standing o) hand) (exchanges-ok a (standing o) _ _ (lt-ltb (length (v ∷ os)) (maxMoves w) one-inside) (follows-ok o))
 
-    pub close-turn : p ≡ shut T (at-node R C) M → TurnOk w s₀ W ws i (actBy SetClose w s h (v ∷ os) m)
+    pub close-turn : (looks : Bool) → p ≡ shut T (at-node R C) M → TurnOk w s₀ W ws i (actBy SetClose w looks s h (v ∷ os) m)
     unfolding actBy setClose inner outer cellAt
-    close-turn z =
+    close-turn looks z =
         closing.close-turn a (standing o) hand (more (o .on) (o .around-on))
         (λ q. shut-can (a .inv .structure) {v = owner i} (λ y. omega arith) (o .setting) full deep blank q)
         (λ q. set-shut-turn (a .inv) i (acts-by o (sets-by o (set-shuts (o .setting) full deep blank))) hand q)

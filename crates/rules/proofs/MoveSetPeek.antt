@@ -2,7 +2,7 @@
 -- Relies on a worker that sets a node, and on the theory's clauses.
 use Prim.Native.Nat.{ℕ, _<_}
 use mathlib.Core.Path.{_≡_, refl}
-use mathlib.Core.Bool.{true}
+use mathlib.Core.Bool.{Bool, true}
 use mathlib.Core.List.{List, _∷_}
 use native.Mathlib.Omega.{arith}
 use Rattle.words.proofs.Choice.{pick-both, both-true}
@@ -53,13 +53,13 @@ module _ {w : ℕ} {s₀ s : Settings} {m : Memory} {W : WorldOf w s₀} {ws : �
       by-count a (standing o) (λ k. TurnOk w s₀ W ws i (going s (to k h) (v ∷ os) m)) SetAppend SetLevel SetFollow q (has-room o q)
       (λ c. goes-on o (set-falls (a .inv .structure) (levelCount w s₀) (o .frame) (o .around) (later W (peek T (at-node R C)) (level T (at-node R C)) refl refl (omega arith))) (missed-not W (W .pixel N) T (at-node R C) q) (set-level (a .inv .structure) (a .inv .partition) (sets-by o (set-peeks (o .setting))) q c) (next-set (level T (at-node R C)) (levels (o .level-is) (o .place))))
 
-  pub peek-turn : (x : Pos) → Setter a f fs N (peek T x) T x → TurnOk w s₀ W ws i (actBy (byPos SetLook SetTail x) w s h (v ∷ os) m)
+  pub peek-turn : (looks : Bool) (x : Pos) → Setter a f fs N (peek T x) T x → TurnOk w s₀ W ws i (actBy (byPos SetLook SetTail x) w looks s h (v ∷ os) m)
   unfolding actBy setLook setTail peeked cellAt setCellOf inner outer
-  peek-turn at-entry o =
+  peek-turn looks at-entry o =
       pick-both (λ k. TurnOk w s₀ W ws i (going s (to k h) (v ∷ os) m)) (expected h _)
       (λ e. has-room o (here-reads a (standing o) e) (limit-pos a))
       (λ e. goes-again o (rereads o) (other-reads a (standing o) e))
-  peek-turn (at-node R C) o =
+  peek-turn looks (at-node R C) o =
       pick-both (λ k. TurnOk w s₀ W ws i (going s (to k h) (v ∷ os) m)) (expected h _)
       (λ e. counted o (here-reads a (standing o) e))
       (λ e. goes-again o (rereads o) (other-reads a (standing o) e))

@@ -3,7 +3,7 @@
 use Prim.Native.Nat.{ℕ, _<_}
 use mathlib.Core.Path.{_≡_, refl, sym, ap, _∙_}
 use mathlib.Core.Logic.{_≢_}
-use mathlib.Core.Bool.{true}
+use mathlib.Core.Bool.{Bool, true}
 use mathlib.Core.List.{List, _∷_}
 use native.Mathlib.Omega.{arith}
 use lib.ListN.{length}
@@ -100,7 +100,7 @@ module _ {w : ℕ} {s₀ s : Settings} {m : Memory} {W : WorldOf w s₀} {ws : �
       (λ e. put-done o y (here-reads a (standing o) e))
       (λ e. g (other-reads a (standing o) e))
 
-  pub put-turn : (x : Pos) (o : Setter a f fs N (put T x M) T x) → passed x < s₀ .limit → TurnOk w s₀ W ws i (actBy (byPos SetPut SetAppend x) w s h (v ∷ os) m)
+  pub put-turn : (looks : Bool) (x : Pos) (o : Setter a f fs N (put T x M) T x) → passed x < s₀ .limit → TurnOk w s₀ W ws i (actBy (byPos SetPut SetAppend x) w looks s h (v ∷ os) m)
   unfolding actBy setPut setAppend setCellOf inner outer cellAt
-  put-turn at-entry o y = put-either _ o y (read-ok o)
-  put-turn (at-node R C) o y = put-either _ o y (follow-ok o)
+  put-turn looks at-entry o y = put-either _ o y (read-ok o)
+  put-turn looks (at-node R C) o y = put-either _ o y (follow-ok o)

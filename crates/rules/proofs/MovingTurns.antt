@@ -2,7 +2,7 @@
 -- Relies on what a turn reads and on the theory's turns of a Move, step by step in MoveGather to MoveFinish.
 use Prim.Native.Nat.{ℕ, _≤_, _<_, _^_}
 use mathlib.Core.Path.{_≡_, refl}
-use mathlib.Core.Bool.{true}
+use mathlib.Core.Bool.{Bool, true}
 use mathlib.Core.List.{List, [], _∷_, _++_}
 use lib.ListN.{length}
 use Rattle.words.specs.Digits.{base, depths}
@@ -42,45 +42,45 @@ no-fetch (is-moving small b (theory.sets pre k n t c)) = none-fetched t tt
 
 module _ {w : ℕ} {s₀ s : Settings} {m : Memory} {W : WorldOf w s₀} {ws : ℕ → Worker} {i : ℕ} {h : Head} {v : Move} {os : List Move} {f : Frame} {fs : List Frame} (a : At w s₀ s m W ws i (record′ h (v ∷ os))) (on : Framed v f) (js : Frames os fs) where
   -- question 6 holds of the turn, and the turn is as it has to be
-  record Turns (k : Kind) : Type 0 where
+  record Turns (looks : Bool) (k : Kind) : Type 0 where
     asks : readsBy k w s h (v ∷ os) m ≡ true
-    turn : TurnOk w s₀ W ws i (actBy k w s h (v ∷ os) m)
+    turn : TurnOk w s₀ W ws i (actBy k w looks s h (v ∷ os) m)
 
   pub setter : {N : ℕ} (p : Phase) → ws i .act ≡ moving f fs (theory.set N p) → h .level ≡ levelOf p → Place h (posOf p) → ws i .key < base w ^ depths w → ws i .since ≤ length (W .book) → (pre : List ℕ) → FrameOk W (owner i) f (pre ++ (N ∷ [])) → f .nodes ≡ pre ++ (N ∷ []) → Setting W N (f .child) (levelOf p) (posOf p) → Around W (owner i) (ws i .key) (f .home) (f .key) (f .child) fs → Setter a f fs N p (levelOf p) (posOf p)
   setter p e l x small b pre k n t c = record { act-is = e; again-last = again-last W p; on = on; around-on = js; level-is = l; place = x; small = small; since-le = b; pre = pre; frame = k; nodes-are = n; setting = t; around = c }
 
   -- by the step, of which the record has the kind and the numbers, and the theory the clause
-  by-step : {p : Step} → ws i .act ≡ moving f fs p → Stepped h p → ActOk W (owner i) (ws i .key) (ws i .since) (moving f fs p) → Turns (stepKind f p)
-  by-step q gathers o = record { asks = gather-asks a on js q o; turn = gather-turn a on js q o }
-  by-step q (aims {N} l) o = record { asks = aim-asks a on js N l q o; turn = aim-acts a on js N l q o }
-  by-step q (sets (peeks {H = T} {x = x} l d)) (is-moving small b (theory.sets pre k n (set-peeks t) c)) =
+  by-step : (looks : Bool) {p : Step} → ws i .act ≡ moving f fs p → Stepped h p → ActOk W (owner i) (ws i .key) (ws i .since) (moving f fs p) → Turns looks (stepKind f p)
+  by-step looks q gathers o = record { asks = gather-asks a on js q o; turn = gather-turn a on js q looks o }
+  by-step looks q (aims {N} l) o = record { asks = aim-asks a on js N l q o; turn = aim-acts a on js N l q looks o }
+  by-step looks q (sets (peeks {H = T} {x = x} l d)) (is-moving small b (theory.sets pre k n (set-peeks t) c)) =
       let o = setter (peek T x) q l d small b pre k n t c in
-      record { asks = peek-asks x o; turn = peek-turn x o }
-  by-step q (sets (fetches l d)) o = absurd (no-fetch o)
-  by-step q (sets (puts {H = T} {n = N} {x = x} l d)) (is-moving small b (theory.sets pre k n (set-puts e t y) c)) =
+      record { asks = peek-asks x o; turn = peek-turn looks x o }
+  by-step looks q (sets (fetches l d)) o = absurd (no-fetch o)
+  by-step looks q (sets (puts {H = T} {n = N} {x = x} l d)) (is-moving small b (theory.sets pre k n (set-puts e t y) c)) =
       let o = setter (put T x N) q l d small b pre k n t c in
-      record { asks = put-asks x o; turn = put-turn x o y }
-  by-step q (sets (agains {H = T} {x = x} l d)) (is-moving small b (theory.sets pre k n (set-reads t y) c)) =
+      record { asks = put-asks x o; turn = put-turn looks x o y }
+  by-step looks q (sets (agains {H = T} {x = x} l d)) (is-moving small b (theory.sets pre k n (set-reads t y) c)) =
       let o = setter (again T x) q l d small b pre k n t c in
-      record { asks = again-asks x o y; turn = again-turn x o y }
-  by-step q (sets (levels {H = T} {R = R} {C = C} l d)) (is-moving small b (theory.sets pre k n (set-levels t y z) c)) =
+      record { asks = again-asks x o y; turn = again-turn looks x o y }
+  by-step looks q (sets (levels {H = T} {R = R} {C = C} l d)) (is-moving small b (theory.sets pre k n (set-levels t y z) c)) =
       let o = setter (level T (at-node R C)) q l d small b pre k n t c in
-      record { asks = level-asks o y z; turn = level-turn o y z refl }
-  by-step q (sets (shuts {H = T} {R = R} {C = C} {G = G} l d e)) (is-moving small b (theory.sets pre k n (set-shuts t y z u) c)) =
+      record { asks = level-asks o y z; turn = level-turn o y z looks refl }
+  by-step looks q (sets (shuts {H = T} {R = R} {C = C} {G = G} l d e)) (is-moving small b (theory.sets pre k n (set-shuts t y z u) c)) =
       let o = setter (shut T (at-node R C) G) q l d small b pre k n t c in
-      record { asks = close-asks o y z e u; turn = close-turn o y z e u refl }
-  by-step q finishes o = record { asks = finish-asks a on js q o; turn = finish-acts a on js q o }
+      record { asks = close-asks o y z e u; turn = close-turn o y z e u looks refl }
+  by-step looks q finishes o = record { asks = finish-asks a on js q o; turn = finish-acts a on js q looks o }
 
 module _ {w : ℕ} {s₀ s : Settings} {m : Memory} {W : WorldOf w s₀} {ws : ℕ → Worker} {i : ℕ} where
   by-asks : (h : Head) {vs : List Move} {f : Frame} {fs : List Frame} {p : Step} (a : At w s₀ s m W ws i (record′ h vs)) → ws i .act ≡ moving f fs p → Doing h vs (moving f fs p) → ActOk W (owner i) (ws i .key) (ws i .since) (moving f fs p) → readsBy (h .kind) w s h vs m ≡ true
-  by-asks h a q (moves k (more on js) t) o = asks-by a k (by-step a on js q t o .asks)
+  by-asks h a q (moves k (more on js) t) o = asks-by a k (by-step a on js true q t o .asks)
 
-  by-turn : (h : Head) {vs : List Move} {f : Frame} {fs : List Frame} {p : Step} (a : At w s₀ s m W ws i (record′ h vs)) → ws i .act ≡ moving f fs p → Doing h vs (moving f fs p) → ActOk W (owner i) (ws i .key) (ws i .since) (moving f fs p) → TurnOk w s₀ W ws i (act w s (record′ h vs) m)
-  by-turn h a q (moves k (more on js) t) o = turn-by a k (by-step a on js q t o .turn)
+  by-turn : (looks : Bool) (h : Head) {vs : List Move} {f : Frame} {fs : List Frame} {p : Step} (a : At w s₀ s m W ws i (record′ h vs)) → ws i .act ≡ moving f fs p → Doing h vs (moving f fs p) → ActOk W (owner i) (ws i .key) (ws i .since) (moving f fs p) → TurnOk w s₀ W ws i (act w looks s (record′ h vs) m)
+  by-turn looks h a q (moves k (more on js) t) o = turn-by a looks k (by-step a on js looks q t o .turn)
 
 module _ {w : ℕ} {s₀ s : Settings} {m : Memory} {W : WorldOf w s₀} {ws : ℕ → Worker} {i : ℕ} {r : Record} (a : At w s₀ s m W ws i r) where
   pub move-asks : (f : Frame) (fs : List Frame) (p : Step) → ws i .act ≡ moving f fs p → readsBy (r .head .kind) w s (r .head) (r .moves) m ≡ true
   move-asks f fs p e = by-asks (r .head) a e (rw e at (a .matches .doing)) (rw e at (a .inv .each i .acts))
 
-  pub move-turn : (f : Frame) (fs : List Frame) (p : Step) → ws i .act ≡ moving f fs p → TurnOk w s₀ W ws i (act w s r m)
-  move-turn f fs p e = by-turn (r .head) a e (rw e at (a .matches .doing)) (rw e at (a .inv .each i .acts))
+  pub move-turn : (looks : Bool) (f : Frame) (fs : List Frame) (p : Step) → ws i .act ≡ moving f fs p → TurnOk w s₀ W ws i (act w looks s r m)
+  move-turn looks f fs p e = by-turn looks (r .head) a e (rw e at (a .matches .doing)) (rw e at (a .inv .each i .acts))

@@ -1,5 +1,6 @@
 -- Demand 1 of one turn: its number is the first no, a refusal leaves settings and areas, and number 9 alone ends the call.
 -- Relies on the definition of a turn and on the laws of the first no.
+use Rattle.settings.specs.Sizes.{views}
 use Prim.Native.Nat.{ℕ}
 use mathlib.Core.Path.{_≡_, refl, sym, ap, _∙_}
 use mathlib.Core.Logic.{_≢_}
@@ -22,7 +23,7 @@ module _ (w : ℕ) (s : Settings) (i : ℕ) (a : Areas) where
   turn-asks = refl
 
   -- a turn that is carried out gives 0
-  taken-number : taken (act w s (recordOf a i) (memoryOf a)) i (a .workers) .reply .number ≡ 0
+  taken-number : taken (act w (views s i) s (recordOf a i) (memoryOf a)) i (a .workers) .reply .number ≡ 0
   unfolding taken
   taken-number = refl
 
@@ -40,10 +41,10 @@ module _ (w : ℕ) (s : Settings) (i : ℕ) (a : Areas) where
       (λ e. unless-number s a _ _ taken-number)
 
   -- number 0: the turn is taken
-  pub done-number : turn w s i a .reply .number ≡ 0 → turn w s i a ≡ taken (act w s (recordOf a i) (memoryOf a)) i (a .workers)
+  pub done-number : turn w s i a .reply .number ≡ 0 → turn w s i a ≡ taken (act w (views s i) s (recordOf a i) (memoryOf a)) i (a .workers)
   unfolding turn
   done-number =
-      pick-both (λ (r : Result). r .reply .number ≡ 0 → r ≡ taken (act w s (recordOf a i) (memoryOf a)) i (a .workers)) _
+      pick-both (λ (r : Result). r .reply .number ≡ 0 → r ≡ taken (act w (views s i) s (recordOf a i) (memoryOf a)) i (a .workers)) _
       (λ e z. absurd (omega (arith, full-number)))
       (λ e z. unless-done s a _ _ taken-number z)
 

@@ -12,7 +12,7 @@ use borrow.Author.Tests.{eq-eqb, ne-eqb}
 use Rattle.words.specs.Choice.{pick, every}
 use Rattle.words.specs.Digits.{pixelNumber}
 use Rattle.words.proofs.Choice.{pick-both, pick-true, pick-false, both-left, both-right}
-use Rattle.settings.specs.Sizes.{question1}
+use Rattle.settings.specs.Sizes.{question1, views}
 use Rattle.settings.specs.declared.Settings.{Settings}
 use Rattle.areas.specs.Memory.{Memory, isNode, cellAt}
 use Rattle.areas.specs.declared.Cell.{Cell}
@@ -48,7 +48,7 @@ use Rattle.rules.proofs.LastAnswers.{own-head, other-head, idle-tells, 
 use Rattle.rules.proofs.Theorem.{opened-width}
 
 -- a turn keeps the pixel, by kind
-module _ (w : ℕ) (s : Settings) (h : Head) (m : Memory) where
+module _ (w : ℕ) (looks : Bool) (s : Settings) (h : Head) (m : Memory) where
   abbrev Keeps : Step → Type 0
   Keeps t = t .record′ .head .pixel ≡ h .pixel
 
@@ -59,6 +59,10 @@ module _ (w : ℕ) (s : Settings) (h : Head) (m : Memory) where
   met-keeps : (c g word : ℕ) → Keeps (searching.met s h c g word m)
   unfolding searching.met searching.metNode ended toNode toLevel
   met-keeps c g word = pick-both Keeps (isNode word) (λ e. pick-both Keeps (eqb _ (h .pixel)) (λ q. refl) (λ q. refl)) (λ e. refl)
+
+  viewed-keeps : (h′ : Head) → h′ .pixel ≡ h .pixel → Keeps (searching.viewed looks s h′ m)
+  unfolding searching.viewed ended
+  viewed-keeps h′ e = pick-both Keeps _ (λ y. e) (λ y. e)
 
   take-keeps : (k : Kind) → Keeps (takeNode k s h m)
   unfolding takeNode withNode holdingNode
@@ -93,14 +97,14 @@ module _ (w : ℕ) (s : Settings) (h : Head) (m : Memory) where
   after-keeps g [] = refl
   after-keeps g (o ∷ os) = refl
 
-  kind-keeps : (k : Kind) (ms : List Move) → Keeps (actBy k w s h ms m)
+  kind-keeps : (k : Kind) (ms : List Move) → Keeps (actBy k w looks s h ms m)
   unfolding actBy to peeked searching.look searching.take searching.put searching.read searching.readWord searching.tail searching.takeTail searching.append searching.level searching.close searching.follow searching.followWord moving.chainHead moving.chainNext moving.setNext moving.setLook moving.setPut moving.setRead moving.setReadWord moving.setTail moving.setAppend moving.setLevel moving.setClose moving.setFollow moving.setFollowWord moving.moveEnd
   kind-keeps Idle ms = refl
-  kind-keeps Look ms = refl
+  kind-keeps Look ms = viewed-keeps _ refl
   kind-keeps Take ms = take-keeps Put
   kind-keeps Put ms = placed-keeps _ _ (met-keeps _ _ _)
   kind-keeps Read ms = met-keeps _ _ _
-  kind-keeps Tail ms = refl
+  kind-keeps Tail ms = viewed-keeps _ refl
   kind-keeps TakeTail ms = take-keeps Append
   kind-keeps Append ms = placed-keeps _ _ (met-keeps _ _ _)
   kind-keeps Level ms = level-keeps Close []
@@ -120,9 +124,9 @@ module _ (w : ℕ) (s : Settings) (h : Head) (m : Memory) where
   kind-keeps MoveEnd ms = after-keeps _ _
   kind-keeps Unknown ms = refl
 
-act-keeps : (w : ℕ) (s : Settings) (r : Record) (m : Memory) → act w s r m .record′ .head .pixel ≡ r .head .pixel
+act-keeps : (w : ℕ) (looks : Bool) (s : Settings) (r : Record) (m : Memory) → act w looks s r m .record′ .head .pixel ≡ r .head .pixel
 unfolding act
-act-keeps w s r m = kind-keeps w s (r .head) m (r .head .kind) (r .moves)
+act-keeps w looks s r m = kind-keeps w looks s (r .head) m (r .head .kind) (r .moves)
 
 full-keeps : (h : Head) → fullRecord h .head .pixel ≡ h .pixel
 unfolding fullRecord ended
@@ -134,17 +138,17 @@ started-pixel p h = refl
 
 -- the pixel after an event, by cases
 module _ (i j : ℕ) (r : Reply) (b : ℕ) where
-  pixel-start : (row column : ℕ) → j ≡ i → r .number ≡ 0 → pixelBy i (starts j row column) r b ≡ pixelNumber row column
+  pixel-start : (looks : Bool) (row column : ℕ) → j ≡ i → r .number ≡ 0 → pixelBy i (starts looks j row column) r b ≡ pixelNumber row column
   unfolding pixelBy
-  pixel-start row column e z = pick-true _ _ _ (eq-eqb _ _ e) ∙ pick-true _ _ _ (eq-eqb _ _ z)
+  pixel-start looks row column e z = pick-true _ _ _ (eq-eqb _ _ e) ∙ pick-true _ _ _ (eq-eqb _ _ z)
 
-  pixel-other : (row column : ℕ) → j ≢ i → pixelBy i (starts j row column) r b ≡ b
+  pixel-other : (looks : Bool) (row column : ℕ) → j ≢ i → pixelBy i (starts looks j row column) r b ≡ b
   unfolding pixelBy
-  pixel-other row column d = pick-false _ _ _ (ne-eqb _ _ d)
+  pixel-other looks row column d = pick-false _ _ _ (ne-eqb _ _ d)
 
-  pixel-refused : (row column : ℕ) → r .number ≢ 0 → pixelBy i (starts j row column) r b ≡ b
+  pixel-refused : (looks : Bool) (row column : ℕ) → r .number ≢ 0 → pixelBy i (starts looks j row column) r b ≡ b
   unfolding pixelBy
-  pixel-refused row column z = pick-both (λ (c : ℕ). c ≡ b) _ (λ e. pick-false _ _ _ (ne-eqb _ _ z)) (λ e. refl)
+  pixel-refused looks row column z = pick-both (λ (c : ℕ). c ≡ b) _ (λ e. pick-false _ _ _ (ne-eqb _ _ z)) (λ e. refl)
 
   pixel-turn : pixelBy i (turns j) r b ≡ b
   unfolding pixelBy
@@ -158,19 +162,19 @@ module _ {w : ℕ} {s₀ : Settings} {x : State} {k : ℕ} {os : List Opened} {c
   PixelAfter e r = pixelOf (after r) ≡ pixelBy i e (r .reply) (pixelOf x)
 
   -- a start
-  module _ (j row column : ℕ) where
-    start-done-pixel : Dec (j ≡ i) → PixelAfter (starts j row column) (result (reply 0 Open 0 (x .settings)) (startedAreas j row column (x .areas)))
+  module _ (looks : Bool) (j row column : ℕ) where
+    start-done-pixel : Dec (j ≡ i) → PixelAfter (starts looks j row column) (result (reply 0 Open 0 (x .settings)) (startedAreas j row column (x .areas)))
     unfolding startedAreas
     start-done-pixel (yes e) =
-        ap (λ (h : Head). h .pixel) (own-head w _ i j (x .areas .workers) e (place-room a i here)) ∙ (started-pixel _ _ ∙ sym (pixel-start i j _ _ row column e refl))
-    start-done-pixel (no d) = ap (λ (h : Head). h .pixel) (other-head w _ i j (x .areas .workers) (alone _) d) ∙ sym (pixel-other i j _ _ row column d)
+        ap (λ (h : Head). h .pixel) (own-head w _ i j (x .areas .workers) e (place-room a i here)) ∙ (started-pixel _ _ ∙ sym (pixel-start i j _ _ looks row column e refl))
+    start-done-pixel (no d) = ap (λ (h : Head). h .pixel) (other-head w _ i j (x .areas .workers) (alone _) d) ∙ sym (pixel-other i j _ _ looks row column d)
 
-    start-pixel : PixelAfter (starts j row column) (start w (x .settings) j row column (x .areas))
-    start-pixel = by (ℕ-discrete (start w (x .settings) j row column (x .areas) .reply .number) 0)
+    start-pixel : PixelAfter (starts looks j row column) (start w (x .settings) looks j row column (x .areas))
+    start-pixel = by (ℕ-discrete (start w (x .settings) looks j row column (x .areas) .reply .number) 0)
       where
-        by : Dec (start w (x .settings) j row column (x .areas) .reply .number ≡ 0) → PixelAfter (starts j row column) (start w (x .settings) j row column (x .areas))
-        by (yes z) = subst (PixelAfter (starts j row column)) (sym (start-done w (x .settings) j row column (x .areas) z)) (start-done-pixel (ℕ-discrete j i))
-        by (no z) = subst (PixelAfter (starts j row column)) (sym (refuses-start w (x .settings) j row column (x .areas) .unchanged z .0)) (sym (pixel-refused i j _ _ row column z))
+        by : Dec (start w (x .settings) looks j row column (x .areas) .reply .number ≡ 0) → PixelAfter (starts looks j row column) (start w (x .settings) looks j row column (x .areas))
+        by (yes z) = subst (PixelAfter (starts looks j row column)) (sym (start-done w (x .settings) looks j row column (x .areas) z)) (start-done-pixel (ℕ-discrete j i))
+        by (no z) = subst (PixelAfter (starts looks j row column)) (sym (refuses-start w (x .settings) looks j row column (x .areas) .unchanged z .0)) (sym (pixel-refused i j _ _ looks row column z))
 
   -- a turn
   module _ (j : ℕ) where
@@ -182,10 +186,10 @@ module _ {w : ℕ} {s₀ : Settings} {x : State} {k : ℕ} {os : List Opened} {c
     full-pixel (yes e) = ap (λ (h : Head). h .pixel) (own-head w _ i j (x .areas .workers) e (place-room a i here)) ∙ own-pixel _ e (full-keeps _)
     full-pixel (no d) = ap (λ (h : Head). h .pixel) (other-head w _ i j (x .areas .workers) (full-formed _) d)
 
-    taken-pixel : TurnYes w x j → Dec (j ≡ i) → PixelAfter (turns j) (taken (act w (x .settings) (recordOf (x .areas) j) (memoryOf (x .areas))) j (x .areas .workers))
+    taken-pixel : TurnYes w x j → Dec (j ≡ i) → PixelAfter (turns j) (taken (act w (views (x .settings) j) (x .settings) (recordOf (x .areas) j) (memoryOf (x .areas))) j (x .areas .workers))
     unfolding taken pixelBy
     taken-pixel y (yes e) =
-        ap (λ (h : Head). h .pixel) (own-head w _ i j (x .areas .workers) e (place-room a i here)) ∙ own-pixel _ e (act-keeps w (x .settings) (recordOf (x .areas) j) (memoryOf (x .areas)))
+        ap (λ (h : Head). h .pixel) (own-head w _ i j (x .areas .workers) e (place-room a i here)) ∙ own-pixel _ e (act-keeps w (views (x .settings) j) (x .settings) (recordOf (x .areas) j) (memoryOf (x .areas)))
     taken-pixel y (no d) = ap (λ (h : Head). h .pixel) (other-head w _ i j (x .areas .workers) (formed a i here j y) d)
 
     turn-pixel : PixelAfter (turns j) (turn w (x .settings) j (x .areas))
@@ -200,7 +204,7 @@ module _ {w : ℕ} {s₀ : Settings} {x : State} {k : ℕ} {os : List Opened} {c
 
   event-pixel : (e : Event) → PixelAfter e (happens w e x)
   unfolding happens
-  event-pixel (starts j row column) = start-pixel j row column
+  event-pixel (starts looks j row column) = start-pixel looks j row column
   event-pixel (turns j) = turn-pixel j
 
 -- any events more
@@ -218,7 +222,9 @@ answer-closed zero n e = let y : _≡_ {A = ℕ} 0 1 = cc in omega arith
 answer-closed (suc zero) n e = let y : _≡_ {A = ℕ} 0 1 = cc in omega arith
 answer-closed (suc (suc zero)) n e = let y : _≡_ {A = ℕ} 0 1 = cc in omega arith
 answer-closed (suc (suc (suc zero))) n e = let y : _≡_ {A = ℕ} 0 1 = cc in omega arith
-answer-closed (suc (suc (suc (suc c)))) n e = let y : _≡_ {A = ℕ} 0 1 = cc in omega arith
+answer-closed (suc (suc (suc (suc zero)))) n e = let y : _≡_ {A = ℕ} 0 1 = cc in omega arith
+answer-closed (suc (suc (suc (suc (suc zero))))) n e = let y : _≡_ {A = ℕ} 0 1 = cc in omega arith
+answer-closed (suc (suc (suc (suc (suc (suc c)))))) n e = let y : _≡_ {A = ℕ} 0 1 = cc in omega arith
 
 open-busy : (r : Record) → lastOf (r .head) ≡ Open → question7 r ≡ false
 unfolding lastOf question7 pick

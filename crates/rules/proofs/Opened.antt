@@ -2,18 +2,21 @@
 -- Relies on the theory's table after an opening, on what the words show, and on the record of zeros.
 use Prim.Native.Nat.{ℕ, _+_, _*_, _-_, _≤_, _<_}
 use mathlib.Core.Path.{_≡_, refl, sym, ap, _∙_}
-use mathlib.Core.Bool.{true}
+use mathlib.Core.Bool.{Bool, true, false}
 use mathlib.Core.List.{List, [], List·Memᴰ·not-nil, List·Permᴰ·nil}
 use native.Mathlib.Decide.{ℕ-discrete}
 use native.Mathlib.Omega.{arith}
 use lib.ListN.{length}
+use Rattle.words.specs.Choice.{pick}
 use Rattle.words.specs.Blocks.{fill}
 use Rattle.words.proofs.Blocks.{length-fill, fill-in}
-use Rattle.settings.specs.Sizes.{levelCount, nodeWords, levelWords, workerWords, question1, question2, fresh}
+use Rattle.settings.specs.Sizes.{levelCount, nodeWords, levelWords, workerWords, question1, question2, fresh, views}
 use Rattle.settings.specs.declared.Settings.{Settings}
 use Rattle.settings.proofs.Laws.{room}
 use Rattle.areas.specs.Memory.{Areas, Memory, none, pixelAt, nextAt, previousAt, depthAt, entryAt}
+use Rattle.record.specs.Kinds.{kindNo}
 use Rattle.record.specs.Layout.{load, workerPlace}
+use Rattle.record.specs.Fits.{viewerTold, answerFits}
 use Rattle.record.proofs.Records.{idle, zero-words}
 use Rattle.record.proofs.Apart.{place-next, room as word-room}
 use native.Mathlib.Nat.{zero-add}
@@ -33,7 +36,7 @@ use Rattle.rules.proofs.Words.{Shows, shows-level}
 use Rattle.rules.proofs.RowEnds.{pairs}
 use Rattle.rules.proofs.Matches.{Matches, rests}
 use Rattle.rules.specs.Calls.{done}
-use Rattle.rules.proofs.Invariant.{WorldOf, Table, Fine}
+use Rattle.rules.proofs.Invariant.{WorldOf, Table, Fine, Role}
 use Rattle.rules.proofs.Along.{Along}
 
 -- the cells' words as a function
@@ -74,6 +77,12 @@ levels {δ} W workers =
     let y = sum-zero (δ .depths - 1) (λ d. 0) (λ d. refl) in
     record { covered = λ d. []; count = λ d. 0; counted = counted W; total = omega arith }
 
+-- a zeroed record is a viewer's and another worker's
+fresh-role : (v : Bool) → Role v (idle .head)
+unfolding answerFits viewerTold kindNo pick
+fresh-role true = record { rest = λ y. refl; call = λ y. absurd (y refl) }
+fresh-role false = record { rest = λ y. refl; call = λ y. absurd (y refl) }
+
 -- the workers' words are zeros
 pub zero-record : (l : List ℕ) (workers i : ℕ) → i < workers → workerWords * workers ≤ length l → load (fill l 0 (workerWords * workers) 0) i ≡ idle
 unfolding workerPlace
@@ -102,7 +111,7 @@ module _ {w : ℕ} (width : Width w) (s : Settings) (a : Areas) (y : question1 s
       record {
         width = width;
         ranges = y;
-        same = record { width-is = refl; workers-is = refl; limit-is = refl; nodes-is = refl };
+        same = record { width-is = refl; workers-is = refl; limit-is = refl; nodes-is = refl; viewers-is = refl };
         shows = shows-level (reads w (s .nodes) (levelCount w s) (memoryOf a) (R .nodes) (R .levels)) 0 none 0 some-level;
         nodes-fresh = fresh-nodes;
         levels-fresh = fresh-levels;
@@ -123,10 +132,11 @@ module _ {w : ℕ} (width : Width w) (s : Settings) (a : Areas) (y : question1 s
         inv = theory.opened-inv (pixelAt (a .nodes)) (cellsOf w (memoryOf a)) (previousAt w (a .levels)) (depthAt w (a .levels)) none (width .some);
         levels = levels opened (s .workers);
         records = λ i h. rw (zero-record (a .workers) (s .workers) i h (R .workers)) matched;
+        roles = λ i h. rw (zero-record (a .workers) (s .workers) i h (R .workers)) (fresh-role (views s i));
       }
     where
       matched : Matches idle theory.fresh
-      matched = record { pixel-is = refl; node-is = refl; level-is = refl; doing = rests refl refl (omega arith) }
+      matched = record { pixel-is = refl; node-is = refl; level-is = refl; doing = rests refl refl }
 
   pub along-opened : Along w s (state (openedSettings s) (openedAreas w s a)) 0 [] []
   unfolding pairs

@@ -46,7 +46,7 @@ handed w s a n h e =
     let six = below-six _ _ f in
     record {
       of-opening = e;
-      of-start = λ i row column. refuses-start w s i row column a .numbered .refusal n h .1 (first-two _ _ _ f);
+      of-start = λ looks i row column. refuses-start w s looks i row column a .numbered .refusal n h .1 (first-two _ _ _ f);
       of-turn = λ i. refuses-turn w s i a .numbered .refusal n h .1 (first-two _ _ _ f);
       of-turns = λ l limit. refuses-list w s l limit a .refusal n h six .1 (first-two _ _ _ f);
       of-last = λ i. refuses-last w s i a .numbered .refusal n h .1 (first-two _ _ _ f);

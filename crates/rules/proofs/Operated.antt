@@ -1,5 +1,6 @@
 -- Demand 3 of all public operations: they leave what the starts and turns since the newest opening leave, and none gives 6.
 -- Relies on demand 3 of starts and turns, on demand 1, and on the laws of a list of turns.
+use Rattle.settings.specs.Sizes.{views}
 use Prim.Native.Nat.{ℕ, zero, suc}
 use mathlib.Core.Path.{_≡_, refl, sym, ap, subst, _∙_}
 use mathlib.Core.Logic.{_≢_}
@@ -14,7 +15,7 @@ use Rattle.settings.specs.Sizes.{fresh}
 use Rattle.settings.specs.declared.Settings.{Settings}
 use Rattle.areas.specs.Memory.{Areas}
 use Rattle.rules.specs.Opening.{openedSettings}
-use Rattle.rules.specs.Asked.{question5}
+use Rattle.rules.specs.Asked.{question5, question17}
 use Rattle.rules.specs.Operations.{Result, unlessRefused, opening, openingQuestions, start, startQuestions, turn, lastAnswer, lastQuestions}
 use Rattle.rules.specs.Lists as many
 use Rattle.rules.specs.Lists.{State, after, visit, turnAt, leftAfter, visits, endState, metSix, turnsResult, listQuestions}
@@ -151,7 +152,7 @@ comes-opening {x = x} c s =
 pub comes-on : {h : Since} {x : State} → ComesAt h x → (o : Operation) → ComesAt (since o x h) (leaves o x)
 unfolding since leaves performs happens eventsOf
 comes-on c (opens s) = comes-opening c s
-comes-on {x = x} (w, c) (starts i row column) = (w, comes-more c _ (subst (λ (v : ℕ). stateAfter w (event.starts i row column ∷ []) x ≡ after (start v (x .settings) i row column (x .areas))) (sym (here-width c)) (after-one w (event.starts i row column) x)))
+comes-on {x = x} (w, c) (starts looks i row column) = (w, comes-more c _ (subst (λ (v : ℕ). stateAfter w (event.starts looks i row column ∷ []) x ≡ after (start v (x .settings) looks i row column (x .areas))) (sym (here-width c)) (after-one w (event.starts looks i row column) x)))
 comes-on {x = x} (w, c) (turns i) = (w, comes-more c _ (subst (λ (v : ℕ). stateAfter w (event.turns i ∷ []) x ≡ after (turn v (x .settings) i (x .areas))) (sym (here-width c)) (after-one w (event.turns i) x)))
 comes-on {x = x} (w, c) (lists l n) = (w, comes-more c _ (list-leaves w l n x (here-width c)))
 comes-on {x = x} c (asks i) = rw (last-leaves (x .settings .width) i x) c
@@ -170,8 +171,17 @@ opening-asks w s a = refl
 opening-not-6 : (w : ℕ) (s : Settings) (a : Areas) → opening w s a .reply .number ≢ 6
 opening-not-6 w s a e = never-first (opening-asks w s a) (refuses-opening w s a .numbered .refusal 6 (λ z. omega arith) .0 e)
 
+-- of a worker the right sort of call may be started
+right-call : (s : Settings) (i : ℕ) → question17 s (views s i) i ≡ true
+unfolding question17 pick
+right-call s i = by (views s i)
+  where
+    by : (b : Bool) → pick b b (not b) ≡ true
+    by true = refl
+    by false = refl
+
 -- where a last answer finds a record that does not fit, so does a start
-last-start : (w : ℕ) (s : Settings) (i : ℕ) (a : Areas) → lastAnswer w s i a .reply .number ≡ 6 → start w s i 0 0 a .reply .number ≡ 6
+last-start : (w : ℕ) (s : Settings) (i : ℕ) (a : Areas) → lastAnswer w s i a .reply .number ≡ 6 → start w s (views s i) i 0 0 a .reply .number ≡ 6
 unfolding lastAnswer lastQuestions start startQuestions question5 both
 last-start w s i a e =
     let (y₁, e₁) = first-later 1 _ _ (λ z. omega arith) (sym (unless-number s a _ _ refl) ∙ e) in
@@ -185,6 +195,7 @@ last-start w s i a e =
     ∙ first-yes 3 _ y₃
     ∙ first-yes 4 _ y₄
     ∙ first-yes 5 _ refl
+    ∙ first-yes 17 _ (right-call s i)
     ∙ gives-first-no (here refl n)
 
 module _ {w : ℕ} where
@@ -211,13 +222,13 @@ module _ {w : ℕ} where
   -- a last answer that gives 6 finds a record that does not fit: a start would give 6 also
   last-not-6 : (i : ℕ) {h : Since} {x : State} → Comes w h x → lastAnswer w (x .settings) i (x .areas) .reply .number ≢ 6
   unfolding happens
-  last-not-6 i {x = x} c e = event-not-6 c (event.starts i 0 0) (last-start w (x .settings) i (x .areas) e)
+  last-not-6 i {x = x} c e = event-not-6 c (event.starts (views (x .settings) i) i 0 0) (last-start w (x .settings) i (x .areas) e)
 
 -- no operation gives 6
 performs-not-6 : (o : Operation) {h : Since} {x : State} → ComesAt h x → performs o x .reply .number ≢ 6
 unfolding performs happens
 performs-not-6 (opens s) {x = x} c = opening-not-6 (s .width) s (x .areas)
-performs-not-6 (starts i row column) {x = x} (w, c) = subst (λ (v : ℕ). start v (x .settings) i row column (x .areas) .reply .number ≢ 6) (sym (here-width c)) (event-not-6 c (event.starts i row column))
+performs-not-6 (starts looks i row column) {x = x} (w, c) = subst (λ (v : ℕ). start v (x .settings) looks i row column (x .areas) .reply .number ≢ 6) (sym (here-width c)) (event-not-6 c (event.starts looks i row column))
 performs-not-6 (turns i) {x = x} (w, c) = subst (λ (v : ℕ). turn v (x .settings) i (x .areas) .reply .number ≢ 6) (sym (here-width c)) (event-not-6 c (event.turns i))
 performs-not-6 (lists l n) {x = x} (w, c) = subst (λ (v : ℕ). many.turns v (x .settings) l n (x .areas) .reply .number ≢ 6) (sym (here-width c)) (list-not-6 l n c)
 performs-not-6 (asks i) {x = x} (w, c) = subst (λ (v : ℕ). lastAnswer v (x .settings) i (x .areas) .reply .number ≢ 6) (sym (here-width c)) (last-not-6 i c)

@@ -3,6 +3,7 @@
 use Prim.Native.Nat.{ℕ, zero, suc, _+_, _≤_}
 use mathlib.Core.Path.{_≡_, refl, ap, _∙_}
 use mathlib.Core.Logic.{inl}
+use mathlib.Core.Bool.{Bool}
 use mathlib.Core.List.{List, [], _∷_}
 use native.Mathlib.Decide.{ℕ-discrete}
 use native.Mathlib.Omega.{arith}
@@ -45,24 +46,24 @@ met-leaves s h c g word m =
 
 -- a kind whose turn is an exchange of the cell to which it is committed
 own-by :
-    (w : ℕ) (s : Settings) (h : Head) (ms : List Move) (m : Memory) (k : Kind) (x : Cell) (b : ℕ) (done : Memory → Step) (failed : ℕ → Memory → Step)
-    → commits k w (to k h) ms m ≡ now x → act w s (record′ (to k h) ms) m ≡ exchanging w (to k h) x b done failed m
-    → done (setCell w m x b) .memory ≡ setCell w m x b → failed (cellAt w m x) m .memory ≡ m → Own w s h ms m k x b
+    (w : ℕ) (looks : Bool) (s : Settings) (h : Head) (ms : List Move) (m : Memory) (k : Kind) (x : Cell) (b : ℕ) (done : Memory → Step) (failed : ℕ → Memory → Step)
+    → commits k w (to k h) ms m ≡ now x → act w looks s (record′ (to k h) ms) m ≡ exchanging w (to k h) x b done failed m
+    → done (setCell w m x b) .memory ≡ setCell w m x b → failed (cellAt w m x) m .memory ≡ m → Own w looks s h ms m k x b
 unfolding exchangeBy expected to
-own-by w s h ms m k x b done failed c a d f =
+own-by w looks s h ms m k x b done failed c a d f =
     record {
       done = λ e. (ap (exchangeBy w (to k h) m) c ∙ pick-true _ _ _ e, ap (λ (t : Step). t .memory) a ∙ exchange-done (λ (t : Step). t .memory ≡ setCell w m x b) w (to k h) x b done failed m d e);
       failed = λ e. (ap (exchangeBy w (to k h) m) c ∙ pick-false _ _ _ e, ap (λ (t : Step). t .memory) a ∙ exchange-failed (λ (t : Step). t .memory ≡ m) w (to k h) x b done failed m f e);
     }
 
-makes-own : (w : ℕ) (s : Settings) (h : Head) (ms : List Move) (m : Memory) (k : Kind) (x : Cell) (b : ℕ) → Makes w h ms m k x b → Own w s h ms m k x b
+makes-own : (w : ℕ) (looks : Bool) (s : Settings) (h : Head) (ms : List Move) (m : Memory) (k : Kind) (x : Cell) (b : ℕ) → Makes w h ms m k x b → Own w looks s h ms m k x b
 unfolding commits to act actBy closed searching.entryOf searching.put searching.append searching.close searching.placed searching.readWord searching.followWord moving.setCellOf moving.setPut moving.setAppend moving.setClose moving.setNode moving.setLast moving.setReadWord moving.setFollowWord moving.setMet
-makes-own w s h ms m k x b put = own-by w s h ms m k x b _ _ refl refl refl (met-leaves s (to k h) _ _ _ m)
-makes-own w s h ms m k x b append = own-by w s h ms m k x b _ _ refl refl refl (met-leaves s (to k h) _ _ _ m)
-makes-own w s h ms m k x b close = own-by w s h ms m k x b _ _ refl refl refl (met-leaves s (to k h) _ _ _ m)
-makes-own w s h ms m k x b set-put = own-by w s h ms m k x b _ _ refl refl refl refl
-makes-own w s h ms m k x b set-append = own-by w s h ms m k x b _ _ refl refl refl refl
-makes-own w s h ms m k x b set-close = own-by w s h ms m k x b _ _ refl refl refl refl
+makes-own w looks s h ms m k x b put = own-by w looks s h ms m k x b _ _ refl refl refl (met-leaves s (to k h) _ _ _ m)
+makes-own w looks s h ms m k x b append = own-by w looks s h ms m k x b _ _ refl refl refl (met-leaves s (to k h) _ _ _ m)
+makes-own w looks s h ms m k x b close = own-by w looks s h ms m k x b _ _ refl refl refl (met-leaves s (to k h) _ _ _ m)
+makes-own w looks s h ms m k x b set-put = own-by w looks s h ms m k x b _ _ refl refl refl refl
+makes-own w looks s h ms m k x b set-append = own-by w looks s h ms m k x b _ _ refl refl refl refl
+makes-own w looks s h ms m k x b set-close = own-by w looks s h ms m k x b _ _ refl refl refl refl
 
 others-none : (w : ℕ) (h : Head) (ms : List Move) (m : Memory) (k : Kind) → ((x : Cell) (b : ℕ) → Makes w h ms m k x b → ⊥) → exchangeOf w (record′ (to k h) ms) m ≡ None
 unfolding commits exchangeBy to

@@ -2,13 +2,13 @@
 -- Relies on that a record is stored in its own words, and on what a turn's kinds leave where its questions are answered yes.
 use Prim.Native.Nat.{ℕ, _≤_}
 use mathlib.Core.Path.{_≡_, refl}
-use mathlib.Core.Bool.{true}
+use mathlib.Core.Bool.{Bool, true}
 use mathlib.Core.List.{List}
 use native.Mathlib.Omega.{arith}
 use borrow.Author.Tests.{eqb-true}
 use Rattle.words.specs.Choice.{firstNo}
 use Rattle.words.proofs.Choice.{pick-both}
-use Rattle.settings.specs.Sizes.{maxMoves, mostMoves, question1}
+use Rattle.settings.specs.Sizes.{maxMoves, mostMoves, views, question1}
 use Rattle.settings.specs.declared.Settings.{Settings}
 use Rattle.areas.specs.Memory.{Areas}
 use Rattle.record.specs.Layout.{Record, store}
@@ -26,9 +26,9 @@ stored w r i l f = record { size = length-store w r i l; words = store-others w 
 same : (i : ℕ) (l : List ℕ) → OthersStay i l l
 same i l = record { size = refl; words = λ k o. refl }
 
-start-own : (w : ℕ) (s : Settings) (i row column : ℕ) (a : Areas) → OthersStay i (a .workers) (start w s i row column a .areas .workers)
+start-own : (w : ℕ) (s : Settings) (looks : Bool) (i row column : ℕ) (a : Areas) → OthersStay i (a .workers) (start w s looks i row column a .areas .workers)
 unfolding start unlessRefused startedAreas
-start-own w s i row column a =
+start-own w s looks i row column a =
     pick-both (λ (r : Result). OthersStay i (a .workers) (r .areas .workers)) _
     (λ e. stored w _ i (a .workers) (fit-none))
     (λ e. same i (a .workers))
@@ -40,7 +40,7 @@ turn-own w s few i a =
     (λ e. stored w _ i (a .workers) (fit-none))
     (λ e. pick-both (λ (r : Result). OthersStay i (a .workers) (r .areas .workers)) _ (λ z. is-taken (eqb-true _ _ z)) (λ z. same i (a .workers)))
   where
-    is-taken : firstNo (turnQuestions w s i a) ≡ 0 → OthersStay i (a .workers) (store (act w s (recordOf a i) (memoryOf a) .record′) i (a .workers))
+    is-taken : firstNo (turnQuestions w s i a) ≡ 0 → OthersStay i (a .workers) (store (act w (views s i) s (recordOf a i) (memoryOf a) .record′) i (a .workers))
     is-taken e = let y = turn-asked w s i a (λ k l h z. omega arith) e in stored w _ i (a .workers) (act-leaves w s (few (y .one)) i a y .moves)
 
 pub own-record : AtWidth OwnRecord

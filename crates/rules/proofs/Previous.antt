@@ -2,12 +2,12 @@
 -- Relies on that every turn lets the world grow, and on that the reached levels are the published ones.
 use Prim.Native.Nat.{ℕ}
 use mathlib.Core.Path.{_≡_, refl, sym, ap, subst, _∙_}
-use mathlib.Core.Bool.{true}
+use mathlib.Core.Bool.{Bool, true}
 use mathlib.Core.List.{List, [], _∷_}
 use native.Mathlib.Decide.{ℕ-discrete}
 use Rattle.words.specs.Choice.{every}
 use Rattle.words.proofs.Choice.{both-left, both-right}
-use Rattle.settings.specs.Sizes.{question1}
+use Rattle.settings.specs.Sizes.{question1, views}
 use Rattle.settings.specs.declared.Settings.{Settings}
 use Rattle.areas.specs.Memory.{Memory, levelRef}
 use Rattle.record.specs.declared.Answer.{Answer}
@@ -25,7 +25,7 @@ use Rattle.rules.proofs.Dims.{Width}
 use Rattle.rules.proofs.Carried.{opening-done, start-done}
 use Rattle.rules.proofs.OneTurn.{done-number, nine-is-full, turn-refused}
 use Rattle.rules.proofs.Refused.{refuses-opening, refuses-start}
-use Rattle.rules.proofs.Invariant.{Rowing, goes, ends-new, ends-found}
+use Rattle.rules.proofs.Invariant.{Rowing, goes, ends-new, ends-found, ends-absent}
 use Rattle.rules.proofs.Reading.{not-free, previous-reads, depth-reads}
 use Rattle.rules.proofs.Reach.{reached-published, published-reached}
 use Rattle.rules.proofs.Along.{Along, top-stays}
@@ -52,13 +52,14 @@ lasts : {δ : Dims} {W W′ : World δ} {c c′ : Worker} {v : Answer} (g : ℕ)
 lasts g p (goes E b n e y) = record { published = E .published g p; prev-is = E .prev-is g p; depth-is = E .depth-is g p }
 lasts g p (ends-new k q e z) = record { published = ap (λ U. U .tree .levelOwner g) e ∙ p; prev-is = ap (λ U. U .tree .prev g) e; depth-is = ap (λ U. U .tree .depth g) e }
 lasts g p (ends-found k q e z) = record { published = ap (λ U. U .tree .levelOwner g) e ∙ p; prev-is = ap (λ U. U .tree .prev g) e; depth-is = ap (λ U. U .tree .depth g) e }
+lasts g p (ends-absent u e z) = record { published = ap (λ U. U .tree .levelOwner g) e ∙ p; prev-is = ap (λ U. U .tree .prev g) e; depth-is = ap (λ U. U .tree .depth g) e }
 
 module _ {w : ℕ} {s₀ : Settings} {x : State} {k : ℕ} {os : List Opened} {cs : List Call} (a : Along w s₀ x k os cs) (g : ℕ) (r : Reached w (memoryOf (x .areas)) (levelRef g)) where
   -- from this state to the one that an operation leaves
   abbrev StaysIn : Result → Type 0
   StaysIn y = Stays w (memoryOf (x .areas)) (memoryOf (y .areas)) g
 
-  taken-stays : (i : ℕ) → turn w (x .settings) i (x .areas) .reply .number ≡ 0 → StaysIn (taken (act w (x .settings) (recordOf (x .areas) i) (memoryOf (x .areas))) i (x .areas .workers))
+  taken-stays : (i : ℕ) → turn w (x .settings) i (x .areas) .reply .number ≡ 0 → StaysIn (taken (act w (views (x .settings) i) (x .settings) (recordOf (x .areas) i) (memoryOf (x .areas))) i (x .areas .workers))
   unfolding taken
   taken-stays i z =
       let K = carried-ok a i z in
@@ -83,17 +84,17 @@ module _ {w : ℕ} {s₀ : Settings} {x : State} {k : ℕ} {os : List Opened} {c
       by (no z) (yes y) = subst StaysIn (sym (nine-is-full w (x .settings) i (x .areas) y)) (full-stays i)
       by (no z) (no y) = subst StaysIn (sym (turn-refused w (x .settings) i (x .areas) z y)) (same r)
 
-  start-stays : (i row column : ℕ) → StaysIn (start w (x .settings) i row column (x .areas))
+  start-stays : (looks : Bool) (i row column : ℕ) → StaysIn (start w (x .settings) looks i row column (x .areas))
   unfolding startedAreas
-  start-stays i row column = by (ℕ-discrete (start w (x .settings) i row column (x .areas) .reply .number) 0)
+  start-stays looks i row column = by (ℕ-discrete (start w (x .settings) looks i row column (x .areas) .reply .number) 0)
     where
-      by : Dec (start w (x .settings) i row column (x .areas) .reply .number ≡ 0) → StaysIn (start w (x .settings) i row column (x .areas))
-      by (yes z) = subst StaysIn (sym (start-done w (x .settings) i row column (x .areas) z)) (same r)
-      by (no z) = subst StaysIn (sym (refuses-start w (x .settings) i row column (x .areas) .unchanged z .0)) (same r)
+      by : Dec (start w (x .settings) looks i row column (x .areas) .reply .number ≡ 0) → StaysIn (start w (x .settings) looks i row column (x .areas))
+      by (yes z) = subst StaysIn (sym (start-done w (x .settings) looks i row column (x .areas) z)) (same r)
+      by (no z) = subst StaysIn (sym (refuses-start w (x .settings) looks i row column (x .areas) .unchanged z .0)) (same r)
 
   event-stays : (e : Event) → StaysIn (happens w e x)
   unfolding happens
-  event-stays (starts i row column) = start-stays i row column
+  event-stays (starts looks i row column) = start-stays looks i row column
   event-stays (turns i) = turn-stays i
 
 -- any events more

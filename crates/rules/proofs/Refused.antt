@@ -2,6 +2,7 @@
 -- Relies on the law of an operation that asks first, on one turn's and on a list of turns'.
 use Prim.Native.Nat.{ℕ}
 use mathlib.Core.Path.{refl}
+use mathlib.Core.Bool.{Bool}
 use Rattle.words.specs.Choice.{both, every}
 use Rattle.settings.specs.declared.Settings.{Settings}
 use Rattle.areas.specs.Memory.{Areas}
@@ -15,9 +16,9 @@ pub refuses-opening : (w : ℕ) (s : Settings) (a : Areas) → Refuses (openingQ
 unfolding opening openingQuestions every both
 refuses-opening w s a = refuses _ s a _ refl refl
 
-pub refuses-start : (w : ℕ) (s : Settings) (i row column : ℕ) (a : Areas) → Refuses (startQuestions w s i row column a) s a (start w s i row column a)
+pub refuses-start : (w : ℕ) (s : Settings) (looks : Bool) (i row column : ℕ) (a : Areas) → Refuses (startQuestions w s looks i row column a) s a (start w s looks i row column a)
 unfolding start startQuestions every both
-refuses-start w s i row column a = refuses _ s a _ refl refl
+refuses-start w s looks i row column a = refuses _ s a _ refl refl
 
 pub refuses-last : (w : ℕ) (s : Settings) (i : ℕ) (a : Areas) → Refuses (lastQuestions w s i a) s a (lastAnswer w s i a)
 unfolding lastAnswer lastQuestions every both

@@ -30,6 +30,7 @@ when-born {b} {b′} K (then {b₁ = b₁} {c = c} {cs = cs} a r) out has = by (
     by : (¬ (HasPixel b₁ K) → Born b₁ K cs b′) → Reads b c b₁ → Born b K (c ∷ cs) b′
     by rec (calls.found n e i is) = extend (rec (rw is out))
     by rec (calls.full e o is) = extend (rec (rw is out))
+    by rec (calls.absent e o is) = extend (rec (rw is out))
     by rec (calls.new n e o f is) = dec (ℕ-discrete (c .pixel) K)
       where
         split : c .pixel ≢ K → (m : ℕ) → List·Memᴰ {A = ℕ × ℕ} (K, m) b ⊎ List·Memᴰ {A = ℕ × ℕ} (K, m) ((c .pixel, n) ∷ []) → ⊥
@@ -45,6 +46,7 @@ read-keeps : {b b′ : Book} {c : Call} {K n : ℕ} → Reads b c b′ → Holds
 read-keeps {b} (calls.new m a o f is) i = rw is (Memᴰ·append-left _ i)
 read-keeps (calls.found m a j is) i = rw is i
 read-keeps (calls.full a o is) i = rw is i
+read-keeps (calls.absent a o is) i = rw is i
 
 pub run-keeps : {b b′ : Book} {cs : List Call} {K n : ℕ} → ReadsRow b cs b′ → Holds b K n → Holds b′ K n
 run-keeps (done e) i = rw e i
@@ -58,6 +60,8 @@ read-places (calls.found m q i is) (inl a) = let y : _≡_ {A = ℕ} 0 1 = cc in
 read-places {n = n} (calls.found m q i is) (inr a) = let e : m ≡ n = cc in rw is (rw e at i)
 read-places (calls.full q o is) (inl a) = let y : _≡_ {A = ℕ} 0 1 = cc in absurd (omega arith)
 read-places (calls.full q o is) (inr a) = let y : _≡_ {A = ℕ} 0 1 = cc in absurd (omega arith)
+read-places (calls.absent q o is) (inl a) = let y : _≡_ {A = ℕ} 0 1 = cc in absurd (omega arith)
+read-places (calls.absent q o is) (inr a) = let y : _≡_ {A = ℕ} 0 1 = cc in absurd (omega arith)
 
 pub places-in : {b b′ : Book} {cs : List Call} → ReadsRow b cs b′ → (c : Call) (n : ℕ) → List·Memᴰ c cs → Places c n → Holds b′ (c .pixel) n
 places-in (done e) c n i a = absurd (List·Memᴰ·not-nil i)

@@ -1,4 +1,4 @@
--- The three ends of a call, read by the book of the row. The book's pairs are the placed nodes with their pixels.
+-- The four ends of a call, read by the book of the row. The book's pairs are the placed nodes with their pixels.
 -- Relies on the row and its book, and on the theory's world.
 use mathlib.Core.Path.{_≡_, refl, sym, ap, ap₂, _∙_}
 use mathlib.Core.Logic.{_⊎_, inl, inr}
@@ -8,10 +8,10 @@ use native.Mathlib.Decide.{ℕ-discrete}
 use lib.ListN.{take}
 use Rattle.trie.proofs.Digits.{Dims}
 use Rattle.trie.proofs.Lists.{_∈_}
-use Rattle.trie.proofs.World.{World, Placed, Partition}
+use Rattle.trie.proofs.World.{World, Placed, Other, Partition}
 use Rattle.trie.proofs.Search.{Unseen}
 use Rattle.trie.proofs.Place.{place, CanPlace}
-use Rattle.record.specs.declared.Answer.the-variants.{New, Found, Full}
+use Rattle.record.specs.declared.Answer.the-variants.{New, Found, Full, Absent}
 use Rattle.rules.specs.Calls.{Call, Book, HasPixel, Reads}
 use Rattle.rules.specs.Calls as calls
 use Rattle.rules.proofs.RowBook.{RowOk, Since, row-append, row-full}
@@ -79,6 +79,10 @@ module _ {δ : Dims} {w : World δ} (Q : Partition w) where
   -- "found"
   pub ends-found : {R : ℕ} → Placed w R → (c : Call) → c .pixel ≡ w .pixel R → c .answer ≡ Found R → Reads (bookOf w) c (bookOf w)
   ends-found {R} p c q a = calls.found {b = bookOf w} {c = c} R a (rw q (in-pairs (w .pixel) (w .book) (Q .noted R p))) refl
+
+  -- "absent": no placed node has the pixel
+  pub ends-absent : (c : Call) → ((m : ℕ) → Placed w m → Other w (c .pixel) m) → c .answer ≡ Absent → Reads (bookOf w) c (bookOf w)
+  ends-absent c u a = calls.absent a (λ h. let (i, q) = of-pairs (w .pixel) (w .book) (h .1) in u (h .0) (Q .noted-placed (h .0) i) q) refl
 
   -- "full": the row has a place for the call, and the book stays
   pub ends-full : {row : List Call} {now b : ℕ} (r : RowOk row (bookOf w) now) (f : Call) → f .start ≤ f .end → f .end ≡ now → f .answer ≡ Full → Since row (pairs (w .pixel) (take b (w .book))) (f .start) → Unseen w (f .pixel) b → (pre : List Call) × (post : List Call) × (row ≡ pre ++ post) × RowOk (pre ++ f ∷ post) (bookOf w) (suc now)

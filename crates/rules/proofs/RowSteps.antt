@@ -11,15 +11,15 @@ use lib.Seq.{take-append-le, take-length}
 use Rattle.trie.proofs.Digits.{Dims}
 use Rattle.trie.proofs.Update.{upd, upd-same, upd-other}
 use Rattle.trie.proofs.Lists.{∈-take}
-use Rattle.trie.proofs.World.{World, Placed, Structure, Partition}
+use Rattle.trie.proofs.World.{World, Placed, Structure, Partition, Other}
 use Rattle.trie.proofs.Evolve.{Grows, grows-refl}
 use Rattle.trie.proofs.Search.{Unseen}
 use Rattle.trie.proofs.Place.{place, CanPlace, place-grows}
 use Rattle.record.specs.declared.Answer.{Answer}
-use Rattle.record.specs.declared.Answer.the-variants.{New, Found, Full}
+use Rattle.record.specs.declared.Answer.the-variants.{New, Found, Full, Absent}
 use Rattle.rules.specs.Calls.{Call, Book, HasPixel}
 use Rattle.rules.proofs.RowBook.{RowOk, Since, row-append, places-in}
-use Rattle.rules.proofs.RowEnds.{pairs, pairs-stay, bookOf, ends-new, ends-found, ends-full}
+use Rattle.rules.proofs.RowEnds.{pairs, pairs-stay, bookOf, ends-new, ends-found, ends-absent, ends-full}
 use Rattle.trie.proofs.Whole.{idle, Worker}
 
 -- an open call of worker i
@@ -131,6 +131,12 @@ module _ {δ : Dims} {w : World δ} (S : Structure w) (Q : Partition w) {workers
   rowed-found {R′} p q =
       let f = ended (workers i) (Found R′) (starts i) now in
       rowed-step (grows-refl w) Q R i c (gets-last row f now refl) (row-append (R .rows) f in-time refl (ends-found Q p f (sym q) refl)) (λ b. absurd (b over))
+
+  -- "absent": Look, Tail of a viewer where its pixel is not placed; the world stays
+  pub rowed-absent : ((m : ℕ) → Placed w m → Other w (workers i .key) m) → Rowed w (upd workers i c) (row ++ (ended (workers i) Absent (starts i) now ∷ [])) (suc now) starts
+  rowed-absent u =
+      let f = ended (workers i) Absent (starts i) now in
+      rowed-step (grows-refl w) Q R i c (gets-last row f now refl) (row-append (R .rows) f in-time refl (ends-absent Q f u refl)) (λ b. absurd (b over))
 
   -- "full": Take, TakeTail with no node left; the call has a place in the row
   pub rowed-full : Unseen w (workers i .key) (workers i .since) → (pre : List Call) × (post : List Call) × (row ≡ pre ++ post) × Rowed w (upd workers i c) (pre ++ ended (workers i) Full (starts i) now ∷ post) (suc now) starts

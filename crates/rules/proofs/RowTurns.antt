@@ -7,15 +7,15 @@ use mathlib.Core.List.{List, [], _∷_, _++_, append-nil, List·Permᴰ, List·P
 use native.Mathlib.Omega.{arith}
 use lib.ListN.{length}
 use Rattle.record.specs.declared.Answer.{Answer}
-use Rattle.record.specs.declared.Answer.the-variants.{Nothing, New, Found, Full, Open}
+use Rattle.record.specs.declared.Answer.the-variants.{Nothing, New, Found, Full, Open, Absent}
 use Rattle.rules.specs.Calls.{Call, Opened, endedBy, endsWith, endingAnswer}
 use Rattle.trie.proofs.Digits.{Dims}
 use Rattle.trie.proofs.Update.{upd}
 use Rattle.trie.proofs.World.{World, Structure, Partition}
 use Rattle.trie.proofs.Search.{Unseen}
 use Rattle.trie.proofs.Whole.{idle, Worker}
-use Rattle.rules.proofs.RowSteps.{Rowed, ended, rowed-step, rowed-new, rowed-found, rowed-full, row-later, book-stays}
-use Rattle.rules.proofs.Invariant.{Rowing, goes, ends-new, ends-found}
+use Rattle.rules.proofs.RowSteps.{Rowed, ended, rowed-step, rowed-new, rowed-found, rowed-absent, rowed-full, row-later, book-stays}
+use Rattle.rules.proofs.Invariant.{Rowing, goes, ends-new, ends-found, ends-absent}
 
 -- the newest open call of worker i in the list has index k and pixel p
 pub record Newest (os : List Opened) (i k p : ℕ) : Type 0 where
@@ -29,6 +29,7 @@ ends-one o n (New m) = ap length (o .ends n (New m))
 ends-one o n (Found m) = ap length (o .ends n (Found m))
 ends-one o n Full = ap length (o .ends n Full)
 ends-one o n Open = refl
+ends-one o n Absent = ap length (o .ends n Absent)
 
 -- one call more, at the end of the list and somewhere in the row
 pub perm-insert : {A : Type 0} {xs : List A} (a : A) (ys zs : List A) → List·Permᴰ xs (ys ++ zs) → List·Permᴰ (xs ++ (a ∷ [])) (ys ++ a ∷ zs)
@@ -73,6 +74,12 @@ module _ {δ : Dims} {W : World δ} (S : Structure W) (Q : Partition W) {ws : �
           row = row ++ (ended (ws i) (Found n) (starts i) now ∷ []);
           rowed = rw e (rowed-found S Q R i busy c z k q);
           perm = rw (o .ends now (Found n)) (Permᴰ·append-right _ p);
+        }
+    row-turn {W′} {c} (ends-absent u e z) =
+        record {
+          row = row ++ (ended (ws i) Absent (starts i) now ∷ []);
+          rowed = rw e (rowed-absent S Q R i busy c z u);
+          perm = rw (o .ends now Absent) (Permᴰ·append-right _ p);
         }
 
     -- a turn that ends "full"

@@ -3,7 +3,7 @@
 use Prim.Native.Nat.{ℕ, _<_}
 use mathlib.Core.Path.{_≡_, refl, sym, ap, subst, _∙_}
 use mathlib.Core.Logic.{_≢_}
-use mathlib.Core.Bool.{true}
+use mathlib.Core.Bool.{Bool, true}
 use mathlib.Core.List.{[]}
 use native.Mathlib.Omega.{arith}
 use borrow.Author.Tests.{eq-eqb, ne-eqb}
@@ -72,7 +72,7 @@ module _ {w : ℕ} {s₀ s : Settings} {m : Memory} {W : WorldOf w s₀} {ws : �
         table = a .table;
         inv = stay-step (a .inv) i c (record { acts = is-idle; holds-node = a .inv .each i .holds-node; holds-level = a .inv .each i .holds-level });
         levels = levels-stay (a .levels) i (a .here) c (grows-refl W) refl;
-        matches = record { pixel-is = a .matches .pixel-is; node-is = a .matches .node-is; level-is = a .matches .level-is; doing = rests refl refl (omega arith) };
+        matches = record { pixel-is = a .matches .pixel-is; node-is = a .matches .node-is; level-is = a .matches .level-is; doing = rests refl refl };
         rowing = ends-found p e refl refl;
         falls = λ y. absurd (y refl);
         dooming = dooming-read (ws i .key) refl;
@@ -137,7 +137,7 @@ module _ {w : ℕ} {s₀ s : Settings} {m : Memory} {W : WorldOf w s₀} {ws : �
   again-asks at-entry o y = both-true (picks-ok a (standing o)) (compares-ok o y)
   again-asks (at-node R C) o y = both-true (stands-ok a (standing o)) (follows-ok o y)
 
-  pub again-turn : (x : Pos) (o : Searcher a (again H x) H x) → word W (ws i .key) H x ≢ levelRef H → TurnOk w s₀ W ws i (actBy (searchKind (again H x)) w s (r .head) (r .moves) m)
+  pub again-turn : (looks : Bool) (x : Pos) (o : Searcher a (again H x) H x) → word W (ws i .key) H x ≢ levelRef H → TurnOk w s₀ W ws i (actBy (searchKind (again H x)) w looks s (r .head) (r .moves) m)
   unfolding actBy spec.read spec.follow
-  again-turn at-entry o y = read-ok o y
-  again-turn (at-node R C) o y = follow-ok o y
+  again-turn looks at-entry o y = read-ok o y
+  again-turn looks (at-node R C) o y = follow-ok o y

@@ -2,7 +2,7 @@
 -- Relies on the taking of a level and the closing of a chain, which a Move does alike.
 use Prim.Native.Nat.{ℕ, suc, _+_}
 use mathlib.Core.Path.{_≡_, refl}
-use mathlib.Core.Bool.{true}
+use mathlib.Core.Bool.{Bool, true}
 use mathlib.Core.List.{[]}
 use native.Mathlib.Numerals.{add-one}
 use native.Mathlib.Omega.{arith}
@@ -39,9 +39,9 @@ module _ {w : ℕ} {s₀ s : Settings} {m : Memory} {W : WorldOf w s₀} {ws : �
   unfolding readsBy
   level-asks (levels k c d) = taking.level-asks a (standing o) d
 
-  pub level-turn : Local W (owner i) (ws i .key) (ws i .since) (level H (at-node R C)) → TurnOk w s₀ W ws i (actBy (searchKind (level H (at-node R C))) w s (r .head) (r .moves) m)
+  pub level-turn : (looks : Bool) → Local W (owner i) (ws i .key) (ws i .since) (level H (at-node R C)) → TurnOk w s₀ W ws i (actBy (searchKind (level H (at-node R C))) w looks s (r .head) (r .moves) m)
   unfolding actBy spec.level holdingLevel
-  level-turn l =
+  level-turn looks l =
       taking.level-turn a (standing o) Close [] (λ G. searching (shut H (at-node R C) G)) (λ G. still-searching) shows
       (λ G free others had. turns.level-turn (a .inv) i (is-searching (o .small) (o .since-le) l) free others had)
       (λ G free. rw (o .act-is) (record { falls = level-falls (a .inv .structure) (levelCount w s₀) free _ _ _ (owner i) (λ y. omega arith) (o .search .path .pub-at) (o .search .stand); dooming = level-dooming (ws i .key) (a .inv .structure) free _ _ _ (owner i) (λ y. omega arith) (o .search .path .pub-at) (o .search .stand) }))
@@ -61,9 +61,9 @@ module _ {w : ℕ} {s₀ s : Settings} {m : Memory} {W : WorldOf w s₀} {ws : �
   unfolding readsBy asks.closes cellAt
   shut-asks = both-true (closing.close-asks a (standing o) in-hand) (exchanges-ok a (standing o) _ _ refl (follows-ok o))
 
-  pub shut-turn : TurnOk w s₀ W ws i (actBy (searchKind (shut H (at-node R C) G)) w s (r .head) (r .moves) m)
+  pub shut-turn : (looks : Bool) → TurnOk w s₀ W ws i (actBy (searchKind (shut H (at-node R C) G)) w looks s (r .head) (r .moves) m)
   unfolding actBy spec.close cellAt
-  shut-turn =
+  shut-turn looks =
       closing.close-turn a (standing o) in-hand none
       (λ q. shut-done (a .inv .structure) (a .inv .partition) (λ y. omega arith) l q)
       (λ q. turns.shut-turn (a .inv) i (is-searching (o .small) (o .since-le) l) in-hand q)

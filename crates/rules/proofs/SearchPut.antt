@@ -3,7 +3,7 @@
 use Prim.Native.Nat.{ℕ, suc, _-_}
 use mathlib.Core.Path.{_≡_, refl, sym, subst}
 use mathlib.Core.Logic.{_≢_}
-use mathlib.Core.Bool.{true}
+use mathlib.Core.Bool.{Bool, true}
 use mathlib.Core.List.{[]}
 use native.Mathlib.Omega.{arith}
 use Rattle.words.proofs.Choice.{both-true}
@@ -65,7 +65,7 @@ module _ {w : ℕ} {s₀ s : Settings} {m : Memory} {W : WorldOf w s₀} {ws : �
         table = table-with (a .table) (setCell w m (spot w (r .head) (r .head .pixel) (m .levels) x) (nodeRef n)) (place W H e n) (rw (spot-cell a (standing o)) (written (a .table) (cellOf H e x) (lastCell W H e) (nodeRef n) (ends-here a (standing o) q .last) (spot-taken a (standing o)))) (fresh-keep (a .table .nodes-fresh) n 0 (node-owned a hand) (λ y. omega arith)) (a .table .levels-fresh);
         inv = turns.put-turn (a .inv) i (is-searching (o .small) (o .since-le) l) hand q;
         levels = levels-stay (a .levels) i (a .here) c E refl;
-        matches = record { pixel-is = a .matches .pixel-is; node-is = refl; level-is = a .matches .level-is; doing = rests refl refl (omega arith) };
+        matches = record { pixel-is = a .matches .pixel-is; node-is = refl; level-is = a .matches .level-is; doing = rests refl refl };
         rowing = ends-new can (pixel-of l) refl refl;
         falls = λ y. absurd (y refl);
         dooming = rw (o .act-is) (dooming-done (ws i .key) (λ y. omega (arith, missed-not W (ws i .key) H x q)) refl);
@@ -84,7 +84,7 @@ module _ {w : ℕ} {s₀ s : Settings} {m : Memory} {W : WorldOf w s₀} {ws : �
       (λ e. subst (λ k. TurnOk w s₀ W ws i (step (New k) s (ended 1 k 0 (r .head)) [] (setCell w m (spot w (r .head) (r .head .pixel) (m .levels) x) (nodeRef k)))) (sym h) (put-new o l (here-reads a (standing o) e)))
       (λ e. g (other-reads a (standing o) e))
 
-  pub put-turn : (x : Pos) (o : Searcher a (put H x n) H x) → Local W (owner i) (ws i .key) (ws i .since) (put H x n) → TurnOk w s₀ W ws i (actBy (searchKind (put H x n)) w s (r .head) (r .moves) m)
+  pub put-turn : (looks : Bool) (x : Pos) (o : Searcher a (put H x n) H x) → Local W (owner i) (ws i .key) (ws i .since) (put H x n) → TurnOk w s₀ W ws i (actBy (searchKind (put H x n)) w looks s (r .head) (r .moves) m)
   unfolding actBy spec.put spec.append spec.entryOf cellAt
-  put-turn at-entry o l = put-either _ o l (read-ok o)
-  put-turn (at-node R C) o l = put-either _ o l (follow-ok o)
+  put-turn looks at-entry o l = put-either _ o l (read-ok o)
+  put-turn looks (at-node R C) o l = put-either _ o l (follow-ok o)

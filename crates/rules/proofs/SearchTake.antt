@@ -3,7 +3,7 @@
 use Prim.Native.Nat.{ℕ, suc, _-_, _≤_, _<_}
 use mathlib.Core.Path.{_≡_, refl, sym, ap, _∙_}
 use mathlib.Core.Logic.{_≢_, _⊎_, inl, inr}
-use mathlib.Core.Bool.{true}
+use mathlib.Core.Bool.{Bool, true}
 use lib.Dec.{eqb}
 use native.Mathlib.Numerals.{add-one}
 use native.Mathlib.Omega.{arith}
@@ -19,9 +19,9 @@ use Rattle.record.specs.declared.Answer.the-variants.{Open}
 use Rattle.record.specs.Layout.{Record}
 use Rattle.rules.specs.Heads.{holdingNode}
 use Rattle.rules.specs.Steps.{tookNode, withNode, takeNode}
-use Rattle.rules.specs.Searching.{take, takeTail}
+use Rattle.rules.specs.Searching.{take, takeTail, takesNode}
 use Rattle.rules.specs.Acts.{actBy}
-use Rattle.rules.specs.Asked.{readsBy, takes, nodeLeft, takesNode, question9}
+use Rattle.rules.specs.Asked.{readsBy, takes, nodeLeft, question9}
 use Rattle.trie.proofs.Update.{upd, upd-same}
 use Rattle.trie.proofs.Fresh.{Fresh, owned-taken, fresh-next, fresh-keep}
 use Rattle.trie.proofs.TakeNode as theory
@@ -94,7 +94,7 @@ module _ {w : ℕ} {s₀ s : Settings} {m : Memory} {W : WorldOf w s₀} {ws : �
       let n = s .«nodes_taken» in
       let nobody = a .table .nodes-fresh .beyond n (omega arith) in
       let all = a .table .same .nodes-is in
-      with-node o l (tookNode s) n (record { width-is = a .table .same .width-is; workers-is = a .table .same .workers-is; limit-is = a .table .same .limit-is; nodes-is = all }) refl
+      with-node o l (tookNode s) n (record { width-is = a .table .same .width-is; workers-is = a .table .same .workers-is; limit-is = a .table .same .limit-is; nodes-is = all; viewers-is = a .table .same .viewers-is }) refl
       (rw add-one (fresh-next (a .table .nodes-fresh) (owner i) (λ y. omega arith)))
       (omega arith) (λ y. omega arith) (λ j d y. omega arith) (inl (sym (a .matches .node-is) ∙ none))
       (took (o .act-is) (sym (a .matches .node-is) ∙ none) (a .table .nodes-fresh) refl (add-one n))
@@ -115,7 +115,7 @@ module _ {w : ℕ} {s₀ s : Settings} {m : Memory} {W : WorldOf w s₀} {ws : �
       (λ e. let z = eqb-true _ _ e in new-node o l (node-left s r q (ap takesNode (o .kind-is) ∙ takes-node H x) z) z)
       (λ e. old-node o l (eqb-false _ _ e))
 
-  pub fetch-turn : (x : Pos) (o : Searcher a (fetch H x) H x) → Local W (owner i) (ws i .key) (ws i .since) (fetch H x) → question9 s r ≡ true → TurnOk w s₀ W ws i (actBy (searchKind (fetch H x)) w s (r .head) (r .moves) m)
+  pub fetch-turn : (looks : Bool) (x : Pos) (o : Searcher a (fetch H x) H x) → Local W (owner i) (ws i .key) (ws i .since) (fetch H x) → question9 s r ≡ true → TurnOk w s₀ W ws i (actBy (searchKind (fetch H x)) w looks s (r .head) (r .moves) m)
   unfolding actBy take takeTail
-  fetch-turn at-entry o l q = taken-node o l q
-  fetch-turn (at-node R C) o l q = taken-node o l q
+  fetch-turn looks at-entry o l q = taken-node o l q
+  fetch-turn looks (at-node R C) o l q = taken-node o l q

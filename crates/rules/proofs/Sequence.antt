@@ -3,7 +3,7 @@
 use Prim.Native.Nat.{ℕ, suc, _<_}
 use mathlib.Core.Path.{_≡_, refl, sym, _∙_}
 use mathlib.Core.Logic.{_⊎_, inl, inr}
-use mathlib.Core.Bool.{true}
+use mathlib.Core.Bool.{Bool, true}
 use mathlib.Core.List.{List, [], _∷_, _++_, append-nil, append-assoc}
 use lib.ListN.{length, length-append}
 use borrow.Author.Tests.{ltb-true, eq-eqb}
@@ -40,17 +40,17 @@ level-reads k w s r m (inr e) q = rw (e, readsBy) at q
 module _ {w : ℕ} {s₀ : Settings} {x : State} {k : ℕ} {os : List Opened} {cs : List Call} (a : Along w s₀ x k os cs) where
   pub event-along : (e : Event) → Along w s₀ (after (happens w e x)) (suc k) (opens e k (happens w e x .reply) os) (cs ++ ends e k (happens w e x .reply) os)
   unfolding happens
-  event-along (starts i row column) = start-along a i row column
+  event-along (starts looks i row column) = start-along a looks i row column
   event-along (turns i) = turn-along a i
 
   -- the calls that the event ended
   event-ends : (e : Event) → length (ends e k (happens w e x .reply) os) ≡ ending e (happens w e x .reply)
   unfolding happens ends ending
-  event-ends (starts i row column) = refl
+  event-ends (starts looks i row column) = refl
   event-ends (turns i) = turn-ends a i
 
   pub event-ok : (e : Event) → EventOk w e x
-  event-ok (starts i row column) = start-event a i row column
+  event-ok (starts looks i row column) = start-event a looks i row column
   event-ok (turns i) = turn-event a i
 
   -- Level and SetLevel: question 6 says that a level is left

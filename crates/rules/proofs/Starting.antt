@@ -3,7 +3,7 @@
 use Prim.Native.Nat.{ℕ, suc, _^_, _≤_, _<_}
 use mathlib.Core.Path.{_≡_, refl, sym}
 use mathlib.Core.Logic.{_≢_}
-use mathlib.Core.Bool.{true}
+use mathlib.Core.Bool.{Bool, true}
 use mathlib.Core.List.{List, _∷_}
 use native.Mathlib.Decide.{ℕ-discrete}
 use native.Mathlib.Omega.{arith}
@@ -13,10 +13,11 @@ use borrow.Author.Tests.{leb-true}
 use Rattle.words.specs.Choice.{every}
 use Rattle.words.specs.Digits.{base, depths, pixelNumber, maxPixel}
 use Rattle.words.proofs.Choice.{both-left, both-right}
+use Rattle.settings.specs.Sizes.{views}
 use Rattle.settings.specs.declared.Settings.{Settings}
 use Rattle.areas.specs.Memory.{areas}
 use Rattle.rules.specs.Heads.{started}
-use Rattle.rules.specs.Asked.{question4, question5, question7}
+use Rattle.rules.specs.Asked.{question4, question5, question17, question7}
 use Rattle.rules.specs.Operations.{recordOf, startQuestions, startedAreas}
 use Rattle.rules.specs.Lists.{State, state}
 use Rattle.rules.specs.Calls.{Call, Opened, starts}
@@ -33,24 +34,27 @@ use Rattle.rules.proofs.RowTurns.{Newest}
 use Rattle.rules.proofs.Matches.{entry, peeks, searches}
 use Rattle.rules.proofs.Invariant.{WorldOf, Fine, at}
 use Rattle.rules.proofs.Stored.{fine-after}
+use Rattle.rules.proofs.Roles.{start-role}
 use Rattle.rules.proofs.Along.{Along, below, newest-first, newest-past}
 
 -- the yes of a start's questions
-pub record StartYes (w : ℕ) (s : Settings) (i row column : ℕ) (x : State) : Type 0 where
+pub record StartYes (w : ℕ) (s : Settings) (looks : Bool) (i row column : ℕ) (x : State) : Type 0 where
   pub below : question4 s i ≡ true
   pub inside : question5 row column ≡ true
+  pub right : question17 s looks i ≡ true
   pub is-idle : question7 (recordOf (x .areas) i) ≡ true
 
-pub start-yes : (w : ℕ) (x : State) (i row column : ℕ) → AllYes (startQuestions w (x .settings) i row column (x .areas)) → StartYes w (x .settings) i row column x
+pub start-yes : (w : ℕ) (x : State) (looks : Bool) (i row column : ℕ) → AllYes (startQuestions w (x .settings) looks i row column (x .areas)) → StartYes w (x .settings) looks i row column x
 unfolding startQuestions every
-start-yes w x i row column y =
+start-yes w x looks i row column y =
     let y₂ = both-right _ _ y in
     let y₃ = both-right _ _ y₂ in
     let y₄ = both-right _ _ y₃ in
     let y₅ = both-right _ _ y₄ in
     let y₆ = both-right _ _ y₅ in
     let y₇ = both-right _ _ y₆ in
-    record { below = both-left _ _ y₄; inside = both-left _ _ y₅; is-idle = both-left _ _ y₇ }
+    let y₈ = both-right _ _ y₇ in
+    record { below = both-left _ _ y₄; inside = both-left _ _ y₅; right = both-left _ _ y₆; is-idle = both-left _ _ y₈ }
 
 pixel-small : (row column : ℕ) → question5 row column ≡ true → pixelNumber row column ≤ maxPixel
 unfolding question5 pixelNumber
@@ -81,10 +85,10 @@ module _ {w : ℕ} {s₀ : Settings} {x : State} {W : WorldOf w s₀} {ws : ℕ 
         holds-node = F .inv .each i .holds-node;
         holds-level = F .inv .each i .holds-level;
       }) in
-      fine-after F i here (F .table) I (levels-stay (F .levels) i here starter (grows-refl W) refl) (record { pixel-is = refl; node-is = K .node-is; level-is = K .level-is; doing = searches refl refl (peeks refl entry) })
+      fine-after F i here (F .table) I (levels-stay (F .levels) i here starter (grows-refl W) refl) (record { pixel-is = refl; node-is = K .node-is; level-is = K .level-is; doing = searches refl refl (peeks refl entry) }) (start-role (views s₀ i) (pixelNumber row column) (recordOf (x .areas) i .head))
 
-module _ {w : ℕ} {s₀ : Settings} {x : State} {k : ℕ} {os : List Opened} {cs : List Call} (a : Along w s₀ x k os cs) (i row column : ℕ) where
-  pub opened-start : StartYes w (x .settings) i row column x → Along w s₀ (state (x .settings) (startedAreas i row column (x .areas))) (suc k) (record { worker = i; index = k; pixel = pixelNumber row column } ∷ os) cs
+module _ {w : ℕ} {s₀ : Settings} {x : State} {k : ℕ} {os : List Opened} {cs : List Call} (a : Along w s₀ x k os cs) (looks : Bool) (i row column : ℕ) where
+  pub opened-start : StartYes w (x .settings) looks i row column x → Along w s₀ (state (x .settings) (startedAreas i row column (x .areas))) (suc k) (record { worker = i; index = k; pixel = pixelNumber row column } ∷ os) cs
   opened-start y =
       record {
         world = a .world;

@@ -87,7 +87,7 @@ module _ {w : ℕ} {s₀ s : Settings} {m : Memory} {W : WorldOf w s₀} {ws : �
         let n = s .«levels_taken» in
         let nobody = a .table .levels-fresh .beyond n (omega arith) in
         let z = sym (a .matches .level-is) ∙ none in
-        with-level (tookLevel s) n (record { width-is = a .table .same .width-is; workers-is = a .table .same .workers-is; limit-is = a .table .same .limit-is; nodes-is = a .table .same .nodes-is }) refl
+        with-level (tookLevel s) n (record { width-is = a .table .same .width-is; workers-is = a .table .same .workers-is; limit-is = a .table .same .limit-is; nodes-is = a .table .same .nodes-is; viewers-is = a .table .same .viewers-is }) refl
         (rw add-one (fresh-next (a .table .levels-fresh) (owner i) (λ y. omega arith)))
         (omega (arith, level-left a z)) (λ y. omega arith) (λ j d y. omega arith) (inl z)
         (λ W′ c E e. rw add-one (levels-new (a .levels) i (a .here) c n E z e))

@@ -11,7 +11,7 @@ use lib.ListN.{length}
 use borrow.Author.Tests.{ltb-true, le-leb}
 use Rattle.words.specs.Choice.{pick, every}
 use Rattle.words.proofs.Choice.{pick-both, pick-true, both-left, both-right, both-true}
-use Rattle.settings.specs.Sizes.{within, levelCount, question1, question2, question3}
+use Rattle.settings.specs.Sizes.{within, levelCount, views, question1, question2, question3}
 use Rattle.settings.specs.declared.Settings.{Settings}
 use Rattle.areas.specs.Memory.{Memory, cellAt, setCell, fillNode, fillLevel}
 use Rattle.areas.specs.declared.Cell.{Cell}
@@ -25,9 +25,10 @@ use Rattle.record.specs.Layout.{Record}
 use Rattle.record.proofs.Records.{length-store}
 use Rattle.rules.specs.Steps.{Step, tookNode, tookLevel, withNode, takeNode, withLevel, takeLevel, exchanging, closed}
 use Rattle.rules.specs.Searching as searching
+use Rattle.rules.specs.Searching.{takesNode}
 use Rattle.rules.specs.Moving as moving
 use Rattle.rules.specs.Acts.{actBy, act}
-use Rattle.rules.specs.Asked.{levelLeft, takesLevel, readsBy, nodeLeft, takesNode, question4, question6, question9}
+use Rattle.rules.specs.Asked.{levelLeft, takesLevel, readsBy, nodeLeft, question4, question6, question9}
 use Rattle.rules.specs.Operations.{Result, recordOf, memoryOf, question2Of, unlessRefused, turnQuestions, taken, full, turn}
 use Rattle.rules.specs.Lists.{State, after}
 use Rattle.rules.specs.Refusals.{AllYes}
@@ -108,6 +109,10 @@ module _ (w : ℕ) (s : Settings) (h : Head) (m : Memory) (q : question3 w s ≡
       both-true (both-left _ _ q) (both-true (le-leb 1 (s .«levels_taken» + 1) (omega arith)) (le-leb (s .«levels_taken» + 1) (levelCount w s) (omega arith))))
       (λ e. q)
 
+  viewed-counted : (looks : Bool) (h′ : Head) → Counted (searching.viewed looks s h′ m)
+  unfolding searching.viewed
+  viewed-counted looks h′ = pick-both Counted _ (λ e. q) (λ e. q)
+
   -- question 9 asks for a node where one is taken
   left-take : pick (takesNode Take) (nodeLeft s h) true ≡ true → nodeLeft s h ≡ true
   unfolding takesNode kindNo pick
@@ -117,44 +122,44 @@ module _ (w : ℕ) (s : Settings) (h : Head) (m : Memory) (q : question3 w s ≡
   unfolding takesNode kindNo pick
   left-tail y = y
 
-  kind-counted : (k : Kind) (ms : List Move) → readsBy k w s h ms m ≡ true → pick (takesNode k) (nodeLeft s h) true ≡ true → Counted (actBy k w s h ms m)
+  kind-counted : (looks : Bool) (k : Kind) (ms : List Move) → readsBy k w s h ms m ≡ true → pick (takesNode k) (nodeLeft s h) true ≡ true → Counted (actBy k w looks s h ms m)
   unfolding actBy readsBy closed searching.look searching.take searching.put searching.placed searching.read searching.readWord searching.tail searching.takeTail searching.append searching.level searching.close searching.follow searching.followWord moving.chainHead moving.chainNext moving.chainWord moving.setLast moving.setNext moving.setLook moving.setPut moving.setNode moving.setRead moving.setReadWord moving.setMet moving.setTail moving.setAppend moving.setLevel moving.setClose moving.setFollow moving.setFollowWord moving.moveEnd
-  kind-counted Idle ms y n = q
-  kind-counted Look ms y n = q
-  kind-counted Take ms y n = take-counted Put (left-take n)
-  kind-counted Put ms y n = exchanged _ _ _ _ q (met-counted _ _ _)
-  kind-counted Read ms y n = met-counted _ _ _
-  kind-counted Tail ms y n = q
-  kind-counted TakeTail ms y n = take-counted Append (left-tail n)
-  kind-counted Append ms y n = exchanged _ _ _ _ q (met-counted _ _ _)
-  kind-counted Level ms y n = level-counted Close [] y
-  kind-counted Close ms y n = exchanged _ _ _ _ q (met-counted _ _ _)
-  kind-counted Follow ms y n = met-counted _ _ _
-  kind-counted ChainHead ms y n = search (either, q)
-  kind-counted ChainNext ms y n = search (either, q)
-  kind-counted SetNext ms y n = q
-  kind-counted SetLook ms y n = q
-  kind-counted SetPut ms y n = exchanged _ _ _ _ q q
-  kind-counted SetRead ms y n = q
-  kind-counted SetTail ms y n = q
-  kind-counted SetAppend ms y n = exchanged _ _ _ _ q q
-  kind-counted SetLevel ms y n = level-counted SetClose _ y
-  kind-counted SetClose ms y n = exchanged _ _ _ _ q q
-  kind-counted SetFollow ms y n = q
-  kind-counted MoveEnd ms y n = q
-  kind-counted Unknown ms y n = q
+  kind-counted looks Idle ms y n = q
+  kind-counted looks Look ms y n = viewed-counted looks _
+  kind-counted looks Take ms y n = take-counted Put (left-take n)
+  kind-counted looks Put ms y n = exchanged _ _ _ _ q (met-counted _ _ _)
+  kind-counted looks Read ms y n = met-counted _ _ _
+  kind-counted looks Tail ms y n = viewed-counted looks _
+  kind-counted looks TakeTail ms y n = take-counted Append (left-tail n)
+  kind-counted looks Append ms y n = exchanged _ _ _ _ q (met-counted _ _ _)
+  kind-counted looks Level ms y n = level-counted Close [] y
+  kind-counted looks Close ms y n = exchanged _ _ _ _ q (met-counted _ _ _)
+  kind-counted looks Follow ms y n = met-counted _ _ _
+  kind-counted looks ChainHead ms y n = search (either, q)
+  kind-counted looks ChainNext ms y n = search (either, q)
+  kind-counted looks SetNext ms y n = q
+  kind-counted looks SetLook ms y n = q
+  kind-counted looks SetPut ms y n = exchanged _ _ _ _ q q
+  kind-counted looks SetRead ms y n = q
+  kind-counted looks SetTail ms y n = q
+  kind-counted looks SetAppend ms y n = exchanged _ _ _ _ q q
+  kind-counted looks SetLevel ms y n = level-counted SetClose _ y
+  kind-counted looks SetClose ms y n = exchanged _ _ _ _ q q
+  kind-counted looks SetFollow ms y n = q
+  kind-counted looks MoveEnd ms y n = q
+  kind-counted looks Unknown ms y n = q
 
 module _ (w : ℕ) (x : State) (i : ℕ) where
   abbrev its : Result
   its = turn w (x .settings) i (x .areas)
 
   -- a turn whose questions are all answered yes
-  act-counted : question3 w (x .settings) ≡ true → AllYes (turnQuestions w (x .settings) i (x .areas)) → question3 w (act w (x .settings) (recordOf (x .areas) i) (memoryOf (x .areas)) .settings) ≡ true
+  act-counted : question3 w (x .settings) ≡ true → AllYes (turnQuestions w (x .settings) i (x .areas)) → question3 w (act w (views (x .settings) i) (x .settings) (recordOf (x .areas) i) (memoryOf (x .areas)) .settings) ≡ true
   unfolding turnQuestions every act question6 question9
   act-counted q y =
       let r : Record = recordOf (x .areas) i in
       let y₆ = both-right _ _ (both-right _ _ (both-right _ _ (both-right _ _ y))) in
-      kind-counted w (x .settings) (r .head) (memoryOf (x .areas)) q (r .head .kind) (r .moves) (both-right _ _ (both-left _ _ y₆)) (both-left _ _ (both-right _ _ (both-right _ _ y₆)))
+      kind-counted w (x .settings) (r .head) (memoryOf (x .areas)) q (views (x .settings) i) (r .head .kind) (r .moves) (both-right _ _ (both-left _ _ y₆)) (both-left _ _ (both-right _ _ (both-right _ _ y₆)))
 
   counters-stay : question3 w (x .settings) ≡ true → question3 w (its .reply .settings) ≡ true
   unfolding taken full
@@ -178,8 +183,8 @@ module _ (w : ℕ) (x : State) (i : ℕ) where
   unfolding tookNode tookLevel
   sizes-stay =
       settings-by (SameSizes (x .settings)) (sizes-same (x .settings))
-      (record { width-is = refl; workers-is = refl; limit-is = refl; nodes-is = refl })
-      (record { width-is = refl; workers-is = refl; limit-is = refl; nodes-is = refl })
+      (record { width-is = refl; workers-is = refl; limit-is = refl; nodes-is = refl; viewers-is = refl })
+      (record { width-is = refl; workers-is = refl; limit-is = refl; nodes-is = refl; viewers-is = refl })
       (one-access w (x .settings) i (x .areas))
 
   pub three-stays : {workers : ℕ} → Three w workers x → Three w workers (after its)

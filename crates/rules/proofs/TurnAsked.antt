@@ -8,7 +8,7 @@ use mathlib.Core.List.{[], _∷_}
 use native.Mathlib.Omega.{arith}
 use borrow.Author.Tests.{not-true}
 use Rattle.words.specs.Choice.{asks, firstNo}
-use Rattle.settings.specs.Sizes.{question1, question3}
+use Rattle.settings.specs.Sizes.{question1, question3, views}
 use Rattle.settings.specs.declared.Settings.{Settings}
 use Rattle.areas.specs.Memory.{Areas}
 use Rattle.rules.specs.Asked.{question4, question6, question7, question8, question9}
@@ -21,7 +21,7 @@ pub record TurnAsked (w : ℕ) (s : Settings) (i : ℕ) (a : Areas) (n : ℕ) : 
   pub two : question2Of w s a ≡ true
   pub three : question3 w s ≡ true
   pub four : question4 s i ≡ true
-  pub six : question6 w s (recordOf a i) (memoryOf a) ≡ true
+  pub six : question6 w (views s i) s (recordOf a i) (memoryOf a) ≡ true
   pub busy : question7 (recordOf a i) ≡ false
   pub nine : firstNo (asks 9 (question9 s (recordOf a i)) ∷ []) ≡ n
 

@@ -1,5 +1,6 @@
 -- The event of a turn: what it leaves holds along the sequence; it is not answered 6, and "full" only where every node is taken.
 -- Relies on that every kind of turn keeps the invariant, on demand 1 of a turn, and on the row over a turn.
+use Rattle.settings.specs.Sizes.{views}
 use Prim.Native.Nat.{ℕ, suc, _≤_}
 use mathlib.Core.Path.{_≡_, refl, sym, ap, _∙_}
 use mathlib.Core.Logic.{_≢_, _⊎_, inl, inr}
@@ -23,11 +24,12 @@ use Rattle.trie.proofs.Update.{upd}
 use Rattle.trie.proofs.Whole.{idle, Worker}
 use Rattle.rules.proofs.Questions.{first-later, first-yes, none-given, last-no}
 use Rattle.rules.proofs.OneTurn.{turn-number, done-number, nine-is-full, turn-refused, turn-leaves}
-use Rattle.rules.proofs.Invariant.{WorldOf, at, TurnOk, Rowing, goes, ends-new, ends-found}
+use Rattle.rules.proofs.Invariant.{WorldOf, at, TurnOk, Rowing, goes, ends-new, ends-found, ends-absent}
 use Rattle.rules.proofs.Idle.{busy-acts}
 use Rattle.rules.proofs.Asking.{asks-ok, turn-ok}
 use Rattle.rules.proofs.Ending.{none-left, full-unseen, stopped, fine-full}
 use Rattle.rules.proofs.Stored.{fine-after}
+use Rattle.rules.proofs.Roles.{turn-role}
 use Rattle.rules.proofs.RowTurns.{ends-one, row-turn, row-full-turn}
 use Rattle.rules.proofs.Along.{Along, below, along-waits, top-stays, newest-stays}
 
@@ -94,7 +96,7 @@ module _ {w : ℕ} {s₀ : Settings} {x : State} {k : ℕ} {os : List Opened} {c
       none-given (λ z. omega arith) e₉
 
   -- what a turn that is carried out leaves of the invariant
-  pub carried-ok : turn w (x .settings) i (x .areas) .reply .number ≡ 0 → TurnOk w s₀ (a .world) (a .workers) i (act w (x .settings) (recordOf (x .areas) i) (memoryOf (x .areas)))
+  pub carried-ok : turn w (x .settings) i (x .areas) .reply .number ≡ 0 → TurnOk w s₀ (a .world) (a .workers) i (act w (views (x .settings) i) (x .settings) (recordOf (x .areas) i) (memoryOf (x .areas)))
   carried-ok z =
       let o = turn-open w x i (inl refl) z in
       turn-ok (at (a .fine) i (below a (o .below))) (o .busy) (first-later 9 _ _ (λ y. omega arith) (o .gives) .0)
@@ -114,7 +116,7 @@ module _ {w : ℕ} {s₀ : Settings} {x : State} {k : ℕ} {os : List Opened} {c
         world = K .world;
         workers = upd (a .workers) i (K .worker);
         starts = a .starts;
-        fine = fine-after F i h (K .table) (K .inv) (K .levels) (K .matches);
+        fine = fine-after F i h (K .table) (K .inv) (K .levels) (K .matches) (turn-role F i h (o .busy));
         top = top-stays F (a .top) (K .rowing);
         rows = row-turn (F .inv .structure) (F .inv .partition) (a .rows .rowed) (a .rows .perm) i b (a .opened i h b) (K .rowing);
         opened = newest-stays s₀ (a .workers) (a .opened) i (K .worker) _ (λ y. (b, (same-key (K .rowing) y, stays-open (K .rowing) y)));
@@ -124,11 +126,13 @@ module _ {w : ℕ} {s₀ : Settings} {x : State} {k : ℕ} {os : List Opened} {c
       same-key (goes E b n e y) z = y
       same-key (ends-new k q e y) z = absurd (z y)
       same-key (ends-found k q e y) z = absurd (z y)
+      same-key (ends-absent u e y) z = absurd (z y)
 
       stays-open : {W W′ : WorldOf w s₀} {c c′ : Worker} {v : Answer} → Rowing W W′ c c′ v → c′ .act ≢ idle → leftOpen i v os ≡ os
       stays-open (goes E b n e y) z = open-left i os
       stays-open (ends-new k q e y) z = absurd (z y)
       stays-open (ends-found k q e y) z = absurd (z y)
+      stays-open (ends-absent u e y) z = absurd (z y)
 
   -- the call ends "full"
   turn-full : turn w (x .settings) i (x .areas) .reply .number ≡ 9 → Along w s₀ (after (turn w (x .settings) i (x .areas))) (suc k) (leftOpen i (turn w (x .settings) i (x .areas) .reply .answer) os) (cs ++ endsWith i k (turn w (x .settings) i (x .areas) .reply .answer) os)
@@ -145,7 +149,7 @@ module _ {w : ℕ} {s₀ : Settings} {x : State} {k : ℕ} {os : List Opened} {c
         world = a .world;
         workers = upd (a .workers) i c;
         starts = a .starts;
-        fine = fine-full F i h;
+        fine = fine-full F i h (N .taking);
         top = a .top;
         rows = row-full-turn (F .inv .structure) (F .inv .partition) (a .rows .rowed) (a .rows .perm) i b (a .opened i h b) c refl (full-unseen (at F i h) (N .taking));
         opened = newest-stays s₀ (a .workers) (a .opened) i c Full (λ y. absurd (y refl));
@@ -196,6 +200,7 @@ module _ {w : ℕ} {s₀ : Settings} {x : State} {k : ℕ} {os : List Opened} {c
       not-full (goes E b n e y) q = let z : _≡_ {A = ℕ} 0 1 = cc in omega arith
       not-full (ends-new k p e y) q = let z : _≡_ {A = ℕ} 0 1 = cc in omega arith
       not-full (ends-found k p e y) q = let z : _≡_ {A = ℕ} 0 1 = cc in omega arith
+      not-full (ends-absent u e y) q = let z : _≡_ {A = ℕ} 0 1 = cc in omega arith
 
       by : Dec (r .reply .number ≡ 0) → Dec (r .reply .number ≡ 9) → r .reply .number ≡ 9
       by (yes z) d =

@@ -3,7 +3,7 @@
 use Prim.Native.Nat.{ℕ, _≤_, _<_}
 use mathlib.Core.Path.{_≡_, refl, sym, ap, subst, _∙_}
 use mathlib.Core.Logic.{_≢_}
-use mathlib.Core.Bool.{true}
+use mathlib.Core.Bool.{Bool, true}
 use mathlib.Core.List.{List}
 use native.Mathlib.Omega.{arith}
 use Rattle.settings.specs.Sizes.{maxLimit, levelCount}
@@ -91,9 +91,9 @@ module _ {w : ℕ} {s₀ s : Settings} {m : Memory} {W : WorldOf w s₀} {ws : �
   limit-le = let k = ranges s₀ (a .table .ranges) in omega arith
 
   -- the turn and its question 6 are those of the record's kind
-  pub turn-by : {k : Kind} → r .head .kind ≡ k → TurnOk w s₀ W ws i (actBy k w s (r .head) (r .moves) m) → TurnOk w s₀ W ws i (act w s r m)
+  pub turn-by : (looks : Bool) {k : Kind} → r .head .kind ≡ k → TurnOk w s₀ W ws i (actBy k w looks s (r .head) (r .moves) m) → TurnOk w s₀ W ws i (act w looks s r m)
   unfolding act
-  turn-by e t = subst (λ k. TurnOk w s₀ W ws i (actBy k w s (r .head) (r .moves) m)) (sym e) t
+  turn-by looks e t = subst (λ k. TurnOk w s₀ W ws i (actBy k w looks s (r .head) (r .moves) m)) (sym e) t
 
   pub asks-by : {k : Kind} → r .head .kind ≡ k → readsBy k w s (r .head) (r .moves) m ≡ true → readsBy (r .head .kind) w s (r .head) (r .moves) m ≡ true
   asks-by e t = ap (λ k. readsBy k w s (r .head) (r .moves) m) e ∙ t

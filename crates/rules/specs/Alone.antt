@@ -11,7 +11,7 @@ use Rattle.settings.specs.Sizes.{levelCount}
 use Rattle.settings.specs.declared.Settings.{Settings}
 use Rattle.areas.specs.Memory.{Areas}
 use Rattle.record.specs.declared.Answer.{Answer}
-use Rattle.record.specs.declared.Answer.the-variants.{Nothing, New, Found, Full, Open}
+use Rattle.record.specs.declared.Answer.the-variants.{Nothing, New, Found, Full, Open, Absent}
 use Rattle.rules.specs.Asked.{question8}
 use Rattle.rules.specs.Operations.{Result, result, reply, recordOf, opening, turn}
 use Rattle.rules.specs.Lists.{State, after}
@@ -24,6 +24,7 @@ goesOn (New n) = false
 goesOn (Found n) = false
 goesOn Full = false
 goesOn Open = true
+goesOn Absent = false
 
 -- at most n turns of worker i, until one is not answered "open": what that turn gave and left
 unfoldable pub runAlone : ℕ → ℕ → ℕ → State → Result

@@ -1,15 +1,15 @@
--- A call that starts with no spare node and has all turns to itself: its answer by the pixels placed before, and what it leaves.
+-- A placing call that starts with no spare node and has all turns to itself: its answer by the pixels placed before, and what it leaves.
 -- Relies on the run of a call alone and on what is shown from the root.
 use Prim.Native.Nat.{ℕ, suc, _<_}
 use mathlib.Core.Path.{_≡_}
 use mathlib.Core.Logic.{_⊎_}
-use mathlib.Core.Bool.{true}
+use mathlib.Core.Bool.{Bool, true, false}
 use mathlib.Core.List.{List, _∷_, _++_}
 use Rattle.words.specs.Digits.{pixelNumber}
 use Rattle.settings.specs.declared.Settings.{Settings}
 use Rattle.areas.specs.Memory.{Areas}
 use Rattle.record.specs.declared.Answer.the-variants.{New, Found, Full}
-use Rattle.rules.specs.Asked.{question5, question7}
+use Rattle.rules.specs.Asked.{question5, question17, question7}
 use Rattle.rules.specs.Operations.{Result, recordOf, opening, start}
 use Rattle.rules.specs.Lists.{State, after}
 use Rattle.rules.specs.Calls.{Event, starts, stateAfter}
@@ -50,30 +50,30 @@ pub record CallAlone (w i p : ℕ) (x : State) (r : Result) : Type 0 where
   -- excludes: a call whose worker cannot start again
   pub idle : question7 (recordOf (after r .areas) i) ≡ true
 
--- for every state x that a sequence reaches, and every start in it that is carried out on a worker without a spare node
+-- for every state x that a sequence reaches, and every placing start in it that is carried out on a worker without a spare node
 abbrev pub AnswersStatement : ℕ → Settings → Type 0
 AnswersStatement w s =
     (a : Areas) → opening w s a .reply .number ≡ 0
     → (es : List Event) (i row column : ℕ)
-    → start w (stateAfter w es (after (opening w s a)) .settings) i row column (stateAfter w es (after (opening w s a)) .areas) .reply .number ≡ 0
+    → start w (stateAfter w es (after (opening w s a)) .settings) false i row column (stateAfter w es (after (opening w s a)) .areas) .reply .number ≡ 0
     → NoSpare (stateAfter w es (after (opening w s a))) i
     → CallAlone w i (pixelNumber row column) (stateAfter w es (after (opening w s a)))
-    (runAlone w (aloneTurns w s) i (after (start w (stateAfter w es (after (opening w s a)) .settings) i row column (stateAfter w es (after (opening w s a)) .areas))))
+    (runAlone w (aloneTurns w s) i (after (start w (stateAfter w es (after (opening w s a)) .settings) false i row column (stateAfter w es (after (opening w s a)) .areas))))
 
--- an idle worker of the table may start a call for any pixel, in every state that a sequence reaches
+-- an idle worker of the table may start a call of its own sort (a viewer looks, another places) for any pixel, in every state that a sequence reaches
 abbrev pub StartsStatement : ℕ → Settings → Type 0
 StartsStatement w s =
     (a : Areas) → opening w s a .reply .number ≡ 0
-    → (es : List Event) (i row column : ℕ) → i < s .workers → question5 row column ≡ true
+    → (es : List Event) (looks : Bool) (i row column : ℕ) → i < s .workers → question17 s looks i ≡ true → question5 row column ≡ true
     → question7 (recordOf (stateAfter w es (after (opening w s a)) .areas) i) ≡ true
-    → start w (stateAfter w es (after (opening w s a)) .settings) i row column (stateAfter w es (after (opening w s a)) .areas) .reply .number ≡ 0
+    → start w (stateAfter w es (after (opening w s a)) .settings) looks i row column (stateAfter w es (after (opening w s a)) .areas) .reply .number ≡ 0
 
 -- and a call that has all turns to itself leaves a state that a sequence reaches, so that the next one may follow
 abbrev pub ReachesStatement : ℕ → Settings → Type 0
 ReachesStatement w s =
     (a : Areas) → opening w s a .reply .number ≡ 0
-    → (es : List Event) (i row column : ℕ)
-    → start w (stateAfter w es (after (opening w s a)) .settings) i row column (stateAfter w es (after (opening w s a)) .areas) .reply .number ≡ 0
+    → (es : List Event) (looks : Bool) (i row column : ℕ)
+    → start w (stateAfter w es (after (opening w s a)) .settings) looks i row column (stateAfter w es (after (opening w s a)) .areas) .reply .number ≡ 0
     → (k : ℕ)
-    × (stateAfter w (es ++ starts i row column ∷ turnsOf i k) (after (opening w s a))
-    ≡ after (runAlone w (aloneTurns w s) i (after (start w (stateAfter w es (after (opening w s a)) .settings) i row column (stateAfter w es (after (opening w s a)) .areas)))))
+    × (stateAfter w (es ++ starts looks i row column ∷ turnsOf i k) (after (opening w s a))
+    ≡ after (runAlone w (aloneTurns w s) i (after (start w (stateAfter w es (after (opening w s a)) .settings) looks i row column (stateAfter w es (after (opening w s a)) .areas)))))

@@ -1,4 +1,4 @@
--- Questions 4 to 9, each under its number. Question 6 has a part for each kind of turn, apart from what the kind then does.
+-- Questions 4 to 9 and 17, each under its number. Question 6 has a part for each kind of turn, apart from what the kind then does.
 -- Relies on the record's layout and on the cells that the kinds of turn read.
 use Prim.Native.Nat.{ℕ, _+_}
 use mathlib.Core.Bool.{Bool, true, not}
@@ -7,7 +7,7 @@ use lib.Dec.{eqb, ltb, leb}
 use lib.ListN.{length}
 use Rattle.words.specs.Choice.{pick, both, every}
 use Rattle.words.specs.Digits.{lastDepth, maxSide, maxPixel}
-use Rattle.settings.specs.Sizes.{levelCount, maxMoves}
+use Rattle.settings.specs.Sizes.{levelCount, maxMoves, views}
 use Rattle.settings.specs.declared.Settings.{Settings}
 use Rattle.areas.specs.Memory.{Memory, isNode, named, pixelAt, nextAt, depthAt, cellAt, levelTaken, nodeTaken, refTaken}
 use Rattle.areas.specs.declared.Cell.{Cell}
@@ -21,7 +21,7 @@ use Rattle.record.specs.Layout.{Record}
 use Rattle.record.specs.Fits.{fits}
 use Rattle.rules.specs.Heads.{lastNode}
 use Rattle.rules.specs.Steps.{expected, backMeets}
-use Rattle.rules.specs.Searching.{entryOf}
+use Rattle.rules.specs.Searching.{entryOf, takesNode}
 use Rattle.rules.specs.Moving.{homeCell, setCellOf}
 use Rattle.rules.specs.Acts.{inner, outer}
 
@@ -36,6 +36,10 @@ question4All s l = every (question4 s) l
 -- "Are row and column at most 4,095?"
 unfoldable pub question5 : ℕ → ℕ → Bool
 question5 row column = both (leb row maxSide) (leb column maxSide)
+
+-- "It refuses with 17, asked after question 5, a placing call on a viewer, a looking call on another worker" (looks: it is a looking call)
+unfoldable pub question17 : Settings → Bool → ℕ → Bool
+question17 s looks i = pick looks (views s i) (not (views s i))
 
 -- the parts of question 6
 
@@ -235,12 +239,12 @@ readsBy MoveEnd w s h ms m = moveEnds w s (inner ms) (outer ms) m
 readsBy Unknown w s h ms m = true
 
 -- question 6 of a turn: "Does the record fit its layout, does each reference read in this turn .. name a taken node or level, .."
-unfoldable pub question6 : ℕ → Settings → Record → Memory → Bool
-question6 w s r m = both (fits w s r) (readsBy (r .head .kind) w s (r .head) (r .moves) m)
+unfoldable pub question6 : ℕ → Bool → Settings → Record → Memory → Bool
+question6 w v s r m = both (fits w v s r) (readsBy (r .head .kind) w s (r .head) (r .moves) m)
 
 -- question 6 of a start and of reading a last answer, which read the record alone
-unfoldable pub question6Record : ℕ → Settings → Record → Bool
-question6Record w s r = fits w s r
+unfoldable pub question6Record : ℕ → Bool → Settings → Record → Bool
+question6Record w v s r = fits w v s r
 
 -- "For a start: is the worker idle?"
 unfoldable pub question7 : Record → Bool
@@ -253,10 +257,6 @@ question8 r = not (question7 r)
 -- "For Take and TakeTail: is a node spare or left?"
 unfoldable pub nodeLeft : Settings → Head → Bool
 nodeLeft s h = pick (eqb (h .«held_node») 0) (ltb (s .«nodes_taken») (s .nodes)) true
-
--- Take and TakeTail
-unfoldable pub takesNode : Kind → Bool
-takesNode k = pick (eqb (kindNo k) 2) true (eqb (kindNo k) 6)
 
 -- asked of Take and TakeTail alone
 unfoldable pub question9 : Settings → Record → Bool

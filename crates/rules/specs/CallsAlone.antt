@@ -1,13 +1,14 @@
--- Calls of one worker, each run to its end before the next starts: they answer as a plain list of pixels does.
+-- Placing calls of one worker, each run to its end before the next starts: they answer as a plain list of pixels does.
 -- Relies on the run of a call alone.
 use Prim.Native.Nat.{ℕ, suc, _<_}
 use mathlib.Core.Path.{_≡_}
-use mathlib.Core.Bool.{Bool, true}
+use mathlib.Core.Bool.{Bool, true, false}
 use mathlib.Core.List.{List, [], _∷_, _++_}
 use lib.Dec.{eqb, ltb}
 use lib.ListN.{length, getD}
 use Rattle.words.specs.Choice.{pick}
 use Rattle.words.specs.Digits.{pixelNumber}
+use Rattle.settings.specs.Sizes.{views}
 use Rattle.settings.specs.declared.Settings.{Settings}
 use Rattle.areas.specs.Memory.{Areas}
 use Rattle.record.specs.declared.Answer.{Answer}
@@ -52,7 +53,7 @@ flatLast nodes l (p ∷ ps) = flatLast nodes (flatNext nodes l (pixelNumber (p .
 
 -- a call of worker i run to its end, with at most n turns
 unfoldable pub callAlone : ℕ → ℕ → ℕ → Place → State → Result
-callAlone w n i p x = runAlone w n i (after (start w (x .settings) i (p .0) (p .1) (x .areas)))
+callAlone w n i p x = runAlone w n i (after (start w (x .settings) false i (p .0) (p .1) (x .areas)))
 
 -- the answers of calls that each run to their end before the next starts
 unfoldable pub answersAlone : ℕ → ℕ → ℕ → List Place → State → List Answer
@@ -74,7 +75,7 @@ unfoldable pub AllInside : List Place → Type 0
 AllInside [] = Unit {0}
 AllInside (p ∷ ps) = (question5 (p .0) (p .1) ≡ true) × AllInside ps
 
--- the calls of worker i for the places ps, from the state x that an opening with the settings s left
+-- the calls of worker i, which is no viewer, for the places ps, from the state x that an opening with the settings s left
 pub record ListLike (w : ℕ) (s : Settings) (x : State) (i : ℕ) (ps : List Place) : Type 0 where
   -- excludes: a call that is answered with another node than the pixel's place in order of arrival
   pub answers : answersAlone w (aloneTurns w s) i ps x ≡ flatAnswers (s .nodes) [] ps
@@ -83,4 +84,4 @@ pub record ListLike (w : ℕ) (s : Settings) (x : State) (i : ℕ) (ps : List Pl
 abbrev pub CallsStatement : ℕ → Settings → Type 0
 CallsStatement w s =
     (a : Areas) → opening w s a .reply .number ≡ 0
-    → (i : ℕ) → i < s .workers → (ps : List Place) → AllInside ps → ListLike w s (after (opening w s a)) i ps
+    → (i : ℕ) → i < s .workers → views s i ≡ false → (ps : List Place) → AllInside ps → ListLike w s (after (opening w s a)) i ps

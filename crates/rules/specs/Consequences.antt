@@ -1,11 +1,11 @@
 -- What demand 3 means to a user: statements about one row with its book and the state after its sequence. Each follows from the row.
 -- Relies on the statement of demand 3.
-use Prim.Native.Nat.{ℕ}
+use Prim.Native.Nat.{ℕ, _<_}
 use mathlib.Core.Path.{_≡_}
 use mathlib.Core.Logic.{_⊎_}
 use mathlib.Core.List.{List, _∷_, _++_, List·Memᴰ}
 use Rattle.areas.specs.Memory.{nodeRef, pixelAt}
-use Rattle.record.specs.declared.Answer.the-variants.{New, Found, Full}
+use Rattle.record.specs.declared.Answer.the-variants.{New, Found, Full, Absent}
 use Rattle.rules.specs.Operations.{memoryOf}
 use Rattle.rules.specs.Lists.{State}
 use Rattle.rules.specs.Reached.{Reached}
@@ -55,3 +55,7 @@ pub record Consequences {w : ℕ} {x : State} {es : List Event} (R : Row w x es)
   pub found-after : (pre post : List Call) (c : Call) (n : ℕ) → R .row ≡ pre ++ c ∷ post → c .answer ≡ Found n → NewIn pre (c .pixel) n
   -- "full" is said before its pixel is placed
   pub full-before : (pre post : List Call) (c : Call) → R .row ≡ pre ++ c ∷ post → c .answer ≡ Full → NonePlaces pre (c .pixel)
+  -- so is a viewer's "absent": "Such a call stands in the row before its pixel is placed"
+  pub absent-before : (pre post : List Call) (c : Call) → R .row ≡ pre ++ c ∷ post → c .answer ≡ Absent → NonePlaces pre (c .pixel)
+  -- and is not said for a pixel whose "new" or "found" had ended before the viewer's call started
+  pub absent-late : (c d : Call) (n : ℕ) → List·Memᴰ c (R .row) → List·Memᴰ d (R .row) → c .answer ≡ Absent → Places d n → d .pixel ≡ c .pixel → ¬ (d .end < c .start)

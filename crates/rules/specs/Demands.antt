@@ -14,7 +14,7 @@ use Rattle.settings.specs.declared.Settings.{Settings}
 use Rattle.areas.specs.Memory.{Areas, nodeRef, pixelAt}
 use Rattle.record.specs.declared.Answer.the-variants.{Full}
 use Rattle.record.specs.declared.Kind.the-variants.{Level, SetLevel}
-use Rattle.rules.specs.Asked.{takesNode}
+use Rattle.rules.specs.Searching.{takesNode}
 use Rattle.rules.specs.Operations.{opening, recordOf, memoryOf}
 use Rattle.rules.specs.Lists.{State, after}
 use Rattle.rules.specs.Reached.{Reached}
@@ -34,7 +34,7 @@ pub record Row (w : ℕ) (x : State) (es : List Event) : Type 0 where
   -- "The row is an order of all ended calls, each standing in it once"
   -- excludes: a machine that answers "found" for a pixel that nobody placed; one that answers "new" twice for one pixel (their row would leave a call out)
   pub all-calls : List·Permᴰ (calls (history w es x)) row
-  -- no ended call is lost: each turn answered "new", "found" or "full" ended a call that a start had opened and no turn had ended
+  -- no ended call is lost: each turn answered "new", "found", "full" or "absent" ended a call that a start had opened and no turn had ended
   -- excludes: a machine that answers "found" to a worker that never started a call; one that answers a call "full" and later "new"
   pub none-lost : length (calls (history w es x)) ≡ endings (history w es x)
   -- excludes: a machine that answers "full" for a pixel placed before the call started; one that answers "found" before any call that places the pixel has started
@@ -46,7 +46,7 @@ pub record Row (w : ℕ) (x : State) (es : List Event) : Type 0 where
 
 -- a turn that takes a next number for a node: Take or TakeTail, nothing spare, carried out
 unfoldable pub takesNumber : ℕ → Event → State → Bool
-takesNumber w (starts i row column) x = false
+takesNumber w (starts looks i row column) x = false
 takesNumber w (turns i) x =
     both (takesNode (recordOf (x .areas) i .head .kind))
     (both (eqb (recordOf (x .areas) i .head .«held_node») 0) (eqb (happens w (turns i) x .reply .number) 0))

@@ -2,6 +2,7 @@
 -- Relies on the operations' definitions, on settings for the sizes.
 use Prim.Native.Nat.{ℕ, _*_, _≤_}
 use mathlib.Core.Path.{_≡_}
+use mathlib.Core.Bool.{Bool}
 use mathlib.Core.List.{List}
 use lib.ListN.{getD, length}
 use Rattle.settings.specs.Sizes.{nodeWords, levelWords, workerWords, levelCount}
@@ -24,7 +25,7 @@ pub record Untouched (w : ℕ) (s : Settings) (a a′ : Areas) : Type 0 where
 -- every operation, over settings and memory of any content, refused or carried out; it holds at the width that the settings give
 pub record ExcessStays (w : ℕ) (s : Settings) : Type 0 where
   pub of-opening : (a : Areas) → Untouched w s a (opening w s a .areas)
-  pub of-start : (i row column : ℕ) (a : Areas) → Untouched w s a (start w s i row column a .areas)
+  pub of-start : (looks : Bool) (i row column : ℕ) (a : Areas) → Untouched w s a (start w s looks i row column a .areas)
   pub of-turn : (i : ℕ) (a : Areas) → Untouched w s a (turn w s i a .areas)
   pub of-turns : (l : List ℕ) (limit : ℕ) (a : Areas) → Untouched w s a (turns w s l limit a .areas)
   pub of-last : (i : ℕ) (a : Areas) → Untouched w s a (lastAnswer w s i a .areas)

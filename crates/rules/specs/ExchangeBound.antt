@@ -15,14 +15,14 @@ use Rattle.rules.specs.Alone.{turnsOf}
 use Rattle.rules.specs.Sequences.{Operation, opens, starts, turns, lists, asks, performs, leaves, leftBy, eventsOf}
 use Rattle.rules.specs.Exchanges.{doomed, doneIn, failedIn, total, failures}
 
--- the workers whose calls place pixels: all of them
+-- the workers whose calls place pixels: those that are no viewers, which are the first
 unfoldable pub placing : Settings → ℕ
-placing s = s .workers
+placing s = s .workers - s .viewers
 
 -- an opening that is carried out begins a sequence anew
 unfoldable pub begins : Operation → State → Bool
 begins (opens s) x = eqb (opening (s .width) s (x .areas) .reply .number) 0
-begins (starts i row column) x = false
+begins (starts looks i row column) x = false
 begins (turns i) x = false
 begins (lists l limit) x = false
 begins (asks i) x = false
@@ -50,7 +50,8 @@ pub record Bounded (x : State) (os : List Operation) : Type 0 where
   -- "In every sequence from a fresh table, failed exchanges are at most (placing workers − 1) × successful ones;"
   -- excludes: a machine whose failed Put tries the same exchange again; one whose Look goes to Take also where the entry is used
   pub bound : failedSince os x ≤ (placing (leftBy os x .settings) - 1) * doneSince os x
-  -- "with no placing worker both are zero." No table is without one until there are viewers: until then this part has no case, and excludes nothing
+  -- "with no placing worker both are zero."
+  -- excludes: a viewer that goes on to Take and Put; one whose Tail goes to Level and Close
   pub none : placing (leftBy os x .settings) ≡ 0 → (failedSince os x ≡ 0) × (doneSince os x ≡ 0)
   -- one placing worker: nothing ever fails
   -- excludes: a machine whose calls start at Take, on an entry that is used; one whose Tail goes to TakeTail where R's next is another node
@@ -60,7 +61,7 @@ pub record Bounded (x : State) (os : List Operation) : Type 0 where
   pub alone : (i k : ℕ) → failures (widthOf (leftBy os x)) (turnsOf i k) (leftBy os x) ≤ pick (doomed (widthOf (leftBy os x)) i (leftBy os x)) 1 0
   -- a call fails none from its start on, while its worker has the turns to itself
   -- excludes: a start that stands before Take, on an entry that is used; one that stands before Put with the worker's spare node
-  pub started : (i row column k : ℕ) → performs (starts i row column) (leftBy os x) .reply .number ≡ 0 → failures (widthOf (leftBy os x)) (turnsOf i k) (after (performs (starts i row column) (leftBy os x))) ≡ 0
+  pub started : (looks : Bool) (i row column k : ℕ) → performs (starts looks i row column) (leftBy os x) .reply .number ≡ 0 → failures (widthOf (leftBy os x)) (turnsOf i k) (after (performs (starts looks i row column) (leftBy os x))) ≡ 0
 
 -- for every state that a carried out opening left and every sequence of operations
 abbrev pub BoundStatement : Type 0

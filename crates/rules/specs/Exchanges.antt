@@ -85,7 +85,7 @@ doomed w i x =
 
 -- of a start or a turn in a state: a start makes no exchange, nor does a turn that is refused
 unfoldable pub exchangeAt : ℕ → Event → State → Exchange
-exchangeAt w (starts i row column) x = None
+exchangeAt w (starts looks i row column) x = None
 exchangeAt w (turns i) x = pick (eqb (turn w (x .settings) i (x .areas) .reply .number) 0) (exchangeOf w (recordOf (x .areas) i) (memoryOf (x .areas))) None
 
 -- 1 if it is done

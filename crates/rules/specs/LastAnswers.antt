@@ -8,7 +8,7 @@ use Rattle.words.specs.Choice.{pick}
 use Rattle.settings.specs.declared.Settings.{Settings}
 use Rattle.areas.specs.Memory.{Areas}
 use Rattle.record.specs.declared.Answer.{Answer}
-use Rattle.record.specs.declared.Answer.the-variants.{Nothing, New, Found, Full, Open}
+use Rattle.record.specs.declared.Answer.the-variants.{Nothing, New, Found, Full, Open, Absent}
 use Rattle.record.specs.declared.Reply.{Reply}
 use Rattle.rules.specs.Operations.{opening, lastAnswer}
 use Rattle.rules.specs.Lists.{State, after}
@@ -21,10 +21,11 @@ endTold (New n) before = New n
 endTold (Found n) before = Found n
 endTold Full before = Full
 endTold Open before = before
+endTold Absent before = Absent
 
 -- worker i's last answer after an event with its reply: "open" from a start of its own that is carried out, the answer from the turn that ends its call; every other event leaves it
 unfoldable pub toldBy : ℕ → Event → Reply → Answer → Answer
-toldBy i (starts j row column) r before = pick (eqb j i) (pick (eqb (r .number) 0) Open before) before
+toldBy i (starts looks j row column) r before = pick (eqb j i) (pick (eqb (r .number) 0) Open before) before
 toldBy i (turns j) r before = pick (eqb j i) (endTold (r .answer) before) before
 
 -- after a history, from its first event on

@@ -31,3 +31,5 @@ pub mod CallsAlone
 pub mod Exchanges
 pub mod OwnExchange
 pub mod ExchangeBound
+pub mod Striking
+pub mod Viewers

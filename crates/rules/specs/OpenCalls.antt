@@ -20,7 +20,7 @@ use Rattle.rules.specs.LastAnswers.{told}
 
 -- the pixel of worker i's newest start that was carried out, after an event with its reply
 unfoldable pub pixelBy : ℕ → Event → Reply → ℕ → ℕ
-pixelBy i (starts j row column) r before = pick (eqb j i) (pick (eqb (r .number) 0) (pixelNumber row column) before) before
+pixelBy i (starts looks j row column) r before = pick (eqb j i) (pick (eqb (r .number) 0) (pixelNumber row column) before) before
 pixelBy i (turns j) r before = before
 
 -- after a history

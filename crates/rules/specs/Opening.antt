@@ -8,7 +8,7 @@ use Rattle.areas.specs.Memory.{Areas, areas, fillLevel, none}
 
 -- "Opening sets nodes taken 0, levels taken 1"
 unfoldable pub openedSettings : Settings → Settings
-openedSettings s = fresh (s .workers) (s .limit) (s .nodes) (s .width)
+openedSettings s = fresh (s .workers) (s .limit) (s .nodes) (s .viewers) (s .width)
 
 -- "writes level 0 and zeroes the workers' words. Every other word keeps its content."
 -- "The root is level 0, depth 0; its previous word is 4,294,967,295, meaning none."

@@ -2,6 +2,7 @@
 -- Relies on the operations' definitions, on settings for the sizes.
 use Prim.Native.Nat.{ℕ, _*_}
 use mathlib.Core.Path.{_≡_}
+use mathlib.Core.Bool.{Bool}
 use mathlib.Core.Logic.{_≢_}
 use mathlib.Core.List.{List}
 use Rattle.settings.specs.Sizes.{levelWords, workerWords}
@@ -24,7 +25,7 @@ OpeningKeeps w = (s : Settings) (a : Areas) → Keeps w s a (opening w s a .area
 -- "the newest settings handed in each time": whoever goes on with the settings that a refused opening gave back is refused by the same number, never by 6
 pub record RefusedAlike (w : ℕ) (s : Settings) (a : Areas) (n : ℕ) : Type 0 where
   pub of-opening : opening w s a .reply .number ≡ n
-  pub of-start : (i row column : ℕ) → start w s i row column a .reply .number ≡ n
+  pub of-start : (looks : Bool) (i row column : ℕ) → start w s looks i row column a .reply .number ≡ n
   pub of-turn : (i : ℕ) → turn w s i a .reply .number ≡ n
   pub of-turns : (l : List ℕ) (limit : ℕ) → turns w s l limit a .reply .number ≡ n
   pub of-last : (i : ℕ) → lastAnswer w s i a .reply .number ≡ n

@@ -7,7 +7,7 @@ use lib.Dec.{eqb}
 use lib.ListN.{length}
 use Rattle.words.specs.Choice.{pick, Question, asks, firstNo}
 use Rattle.words.specs.Digits.{pixelNumber}
-use Rattle.settings.specs.Sizes.{question1, question2, question3}
+use Rattle.settings.specs.Sizes.{views, question1, question2, question3}
 use Rattle.settings.specs.declared.Settings.{Settings}
 use Rattle.areas.specs.Memory.{Areas, areas, Memory, memory}
 use Rattle.record.specs.declared.Answer.{Answer}
@@ -20,7 +20,7 @@ use Rattle.rules.specs.Opening.{openedSettings, openedAreas}
 use Rattle.rules.specs.Heads.{started, ended}
 use Rattle.rules.specs.Steps.{Step}
 use Rattle.rules.specs.Acts.{act}
-use Rattle.rules.specs.Asked.{question4, question5, question6, question6Record, question7, question8, question9}
+use Rattle.rules.specs.Asked.{question4, question5, question17, question6, question6Record, question7, question8, question9}
 
 -- a statement over a width and settings, at the width that the settings give
 abbrev pub AtWidth : (ℕ → Settings → Type 0) → Type 0
@@ -68,15 +68,16 @@ unfoldable pub opening : ℕ → Settings → Areas → Result
 opening w s a =
     unlessRefused (firstNo (openingQuestions w s a)) s a (result (reply 0 Nothing 0 (openedSettings s)) (openedAreas w s a))
 
--- Start of a call of worker i for the pixel at row and column
-unfoldable pub startQuestions : ℕ → Settings → ℕ → ℕ → ℕ → Areas → List Question
-startQuestions w s i row column a =
+-- Start of a call of worker i for the pixel at row and column, placing or looking (looks)
+unfoldable pub startQuestions : ℕ → Settings → Bool → ℕ → ℕ → ℕ → Areas → List Question
+startQuestions w s looks i row column a =
     asks 1 (question1 s)
     ∷ asks 2 (question2Of w s a)
     ∷ asks 3 (question3 w s)
     ∷ asks 4 (question4 s i)
     ∷ asks 5 (question5 row column)
-    ∷ asks 6 (question6Record w s (recordOf a i))
+    ∷ asks 17 (question17 s looks i)
+    ∷ asks 6 (question6Record w (views s i) s (recordOf a i))
     ∷ asks 7 (question7 (recordOf a i))
     ∷ []
 
@@ -89,9 +90,9 @@ unfoldable pub startedAreas : ℕ → ℕ → ℕ → Areas → Areas
 startedAreas i row column a = withRecord i (record′ (started (pixelNumber row column) (recordOf a i .head)) []) a
 
 -- start of a call: its answer is "open"
-unfoldable pub start : ℕ → Settings → ℕ → ℕ → ℕ → Areas → Result
-start w s i row column a =
-    unlessRefused (firstNo (startQuestions w s i row column a)) s a (result (reply 0 Open 0 s) (startedAreas i row column a))
+unfoldable pub start : ℕ → Settings → Bool → ℕ → ℕ → ℕ → Areas → Result
+start w s looks i row column a =
+    unlessRefused (firstNo (startQuestions w s looks i row column a)) s a (result (reply 0 Open 0 s) (startedAreas i row column a))
 
 -- One turn of worker i
 unfoldable pub turnQuestions : ℕ → Settings → ℕ → Areas → List Question
@@ -100,7 +101,7 @@ turnQuestions w s i a =
     ∷ asks 2 (question2Of w s a)
     ∷ asks 3 (question3 w s)
     ∷ asks 4 (question4 s i)
-    ∷ asks 6 (question6 w s (recordOf a i) (memoryOf a))
+    ∷ asks 6 (question6 w (views s i) s (recordOf a i) (memoryOf a))
     ∷ asks 8 (question8 (recordOf a i))
     ∷ asks 9 (question9 s (recordOf a i))
     ∷ []
@@ -123,7 +124,7 @@ unfoldable pub turn : ℕ → Settings → ℕ → Areas → Result
 turn w s i a =
     pick (eqb (firstNo (turnQuestions w s i a)) 9)
     (full s i a)
-    (unlessRefused (firstNo (turnQuestions w s i a)) s a (taken (act w s (recordOf a i) (memoryOf a)) i (a .workers)))
+    (unlessRefused (firstNo (turnQuestions w s i a)) s a (taken (act w (views s i) s (recordOf a i) (memoryOf a)) i (a .workers)))
 
 -- Last answer of worker i: "gives "none" before a worker's first end and "open" during a call"
 unfoldable pub lastQuestions : ℕ → Settings → ℕ → Areas → List Question
@@ -132,7 +133,7 @@ lastQuestions w s i a =
     ∷ asks 2 (question2Of w s a)
     ∷ asks 3 (question3 w s)
     ∷ asks 4 (question4 s i)
-    ∷ asks 6 (question6Record w s (recordOf a i))
+    ∷ asks 6 (question6Record w (views s i) s (recordOf a i))
     ∷ []
 
 -- the answer that a record's head holds

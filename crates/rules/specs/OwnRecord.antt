@@ -3,6 +3,7 @@
 use Prim.Native.Nat.{ℕ, _+_, _*_, _≤_, _<_}
 use mathlib.Core.Path.{_≡_}
 use mathlib.Core.Logic.{_⊎_}
+use mathlib.Core.Bool.{Bool}
 use mathlib.Core.List.{List}
 use lib.ListN.{getD, length}
 use Rattle.settings.specs.Sizes.{workerWords}
@@ -18,5 +19,5 @@ pub record OthersStay (i : ℕ) (l l′ : List ℕ) : Type 0 where
 -- at the width that the settings give
 -- excludes: a failed Put that writes its node into another worker's record as that worker's spare; a start that makes another worker idle
 pub record OwnRecord (w : ℕ) (s : Settings) : Type 0 where
-  pub of-start : (i row column : ℕ) (a : Areas) → OthersStay i (a .workers) (start w s i row column a .areas .workers)
+  pub of-start : (looks : Bool) (i row column : ℕ) (a : Areas) → OthersStay i (a .workers) (start w s looks i row column a .areas .workers)
   pub of-turn : (i : ℕ) (a : Areas) → OthersStay i (a .workers) (turn w s i a .areas .workers)

@@ -3,7 +3,7 @@
 use Prim.Native.Nat.{ℕ}
 use mathlib.Core.Path.{_≡_}
 use mathlib.Core.Logic.{_≢_}
-use mathlib.Core.Bool.{true, false, not}
+use mathlib.Core.Bool.{Bool, true, false, not}
 use mathlib.Core.List.{List, [], _∷_, _++_}
 use Rattle.words.specs.Choice.{Question, every}
 use Rattle.settings.specs.declared.Settings.{Settings}
@@ -60,7 +60,7 @@ pub record RefusesList (w : ℕ) (s : Settings) (l : List ℕ) (limit : ℕ) (a 
 -- Demand 1: every operation, over settings and memory of any content
 pub record Demand1 (w : ℕ) : Type 0 where
   pub of-opening : (s : Settings) (a : Areas) → Refuses (openingQuestions w s a) s a (opening w s a)
-  pub of-start : (s : Settings) (i row column : ℕ) (a : Areas) → Refuses (startQuestions w s i row column a) s a (start w s i row column a)
+  pub of-start : (s : Settings) (looks : Bool) (i row column : ℕ) (a : Areas) → Refuses (startQuestions w s looks i row column a) s a (start w s looks i row column a)
   pub of-turn : (s : Settings) (i : ℕ) (a : Areas) → RefusesTurn w s i a
   pub of-turns : (s : Settings) (l : List ℕ) (limit : ℕ) (a : Areas) → RefusesList w s l limit a
   pub of-last : (s : Settings) (i : ℕ) (a : Areas) → Refuses (lastQuestions w s i a) s a (lastAnswer w s i a)

@@ -1,17 +1,20 @@
 -- The ten kinds of turn of a search ("Turns of a call for pixel K"). A searching worker has no Move.
 -- Relies on the steps that searching and moving share.
+use Rattle.record.specs.declared.Kind.{Kind}
 use Prim.Native.Nat.{ℕ, _-_}
 use mathlib.Core.List.{List, []}
+use mathlib.Core.Bool.{Bool, true}
 use lib.Dec.{eqb}
-use Rattle.words.specs.Choice.{pick}
+use Rattle.words.specs.Choice.{pick, both}
 use Rattle.words.specs.Digits.{lastDepth}
 use Rattle.settings.specs.declared.Settings.{Settings}
 use Rattle.areas.specs.Memory.{Memory, nodeRef, isNode, named, pixelAt, nextAt, entryCell, cellAt}
 use Rattle.areas.specs.declared.Cell.{Cell}
 use Rattle.areas.specs.declared.Cell.the-variants.{Next}
 use Rattle.record.specs.declared.Kind.the-variants.{Look, Take, Put, Read, Tail, TakeTail, Append, Level, Close, Follow}
-use Rattle.record.specs.declared.Answer.the-variants.{New, Found}
+use Rattle.record.specs.declared.Answer.the-variants.{New, Found, Absent}
 use Rattle.record.specs.declared.Head.{Head}
+use Rattle.record.specs.Kinds.{kindNo}
 use Rattle.rules.specs.Heads.{toLevel, toNode, ended}
 use Rattle.rules.specs.Steps.{Step, step, going, peeked, byCount, more, takeNode, takeLevel, exchanging, closed, childOf}
 
@@ -46,9 +49,21 @@ readWord s h word m = met s h 1 (named word) word m
 unfoldable pub followWord : ℕ → Settings → Head → ℕ → Memory → Step
 followWord w s h word m = met s h (more s (h .count)) (childOf w (m .levels) (lastDepth w) (h .level) (named word)) word m
 
+-- Take and TakeTail
+unfoldable pub takesNode : Kind → Bool
+takesNode k = pick (eqb (kindNo k) 2) true (eqb (kindNo k) 6)
+
+-- Take, TakeTail or Level comes next: what a placing call goes on to where its pixel is not there
+unfoldable pub wants : Kind → Bool
+wants k = pick (takesNode k) true (eqb (kindNo k) 8)
+
+-- the next kind is that of a peeked head; a viewer (v): "Where a worker would go to Take, TakeTail or Level, it ends "absent""
+unfoldable pub viewed : Bool → Settings → Head → Memory → Step
+viewed v s h m = pick (both v (wants (h .kind))) (step Absent s (ended 5 0 (h .«held_node») h) [] m) (going s h [] m)
+
 -- "Look (level H): read K's entry. H: Take. Otherwise: Read."
-unfoldable pub look : ℕ → Settings → Head → Memory → Step
-look w s h m = going s (peeked h (cellAt w m (entryOf w h (m .levels))) Take Read) [] m
+unfoldable pub look : ℕ → Bool → Settings → Head → Memory → Step
+look w v s h m = viewed v s (peeked h (cellAt w m (entryOf w h (m .levels))) Take Read) m
 
 -- "Take: use the spare node, else the next number .. Write K and next = H. Then Put."
 unfoldable pub take : Settings → Head → Memory → Step
@@ -63,8 +78,8 @@ unfoldable pub read : ℕ → Settings → Head → Memory → Step
 read w s h m = readWord s h (cellAt w m (entryOf w h (m .levels))) m
 
 -- "Tail: read R's next. H and count below the limit: TakeTail. H and count at the limit: Level. Else: Follow."
-unfoldable pub tail : ℕ → Settings → Head → Memory → Step
-tail w s h m = going s (peeked h (nextAt (m .nodes) (h .node)) (byCount s (h .count) TakeTail Level Follow) Follow) [] m
+unfoldable pub tail : ℕ → Bool → Settings → Head → Memory → Step
+tail w v s h m = viewed v s (peeked h (nextAt (m .nodes) (h .node)) (byCount s (h .count) TakeTail Level Follow) Follow) m
 
 -- "TakeTail, Append: as Take and Put, on R's next"
 unfoldable pub takeTail : Settings → Head → Memory → Step

@@ -2,6 +2,7 @@
 -- Relies on the operations' definitions and on the statement of demand 3.
 use Prim.Native.Nat.{ℕ}
 use mathlib.Core.Path.{_≡_}
+use mathlib.Core.Bool.{Bool}
 use mathlib.Core.Logic.{_≢_}
 use mathlib.Core.List.{List, [], _∷_, _++_}
 use lib.Dec.{eqb}
@@ -18,7 +19,7 @@ use Rattle.rules.specs.Demands.{Demand3}
 -- an operation with any numbers in it; each gets the settings that the one before gave back, an opening gets its own
 pub data Operation : Type 0 where
   opens : Settings → Operation
-  starts : ℕ → ℕ → ℕ → Operation
+  starts : Bool → ℕ → ℕ → ℕ → Operation
   turns : ℕ → Operation
   lists : List ℕ → ℕ → Operation
   asks : ℕ → Operation
@@ -26,7 +27,7 @@ pub data Operation : Type 0 where
 -- by the definitions that the public operations' contracts cite, each at the width of the settings that it gets: an opening may bring another
 unfoldable pub performs : Operation → State → Result
 performs (opens s) x = opening (s .width) s (x .areas)
-performs (starts i row column) x = start (x .settings .width) (x .settings) i row column (x .areas)
+performs (starts looks i row column) x = start (x .settings .width) (x .settings) looks i row column (x .areas)
 performs (turns i) x = turn (x .settings .width) (x .settings) i (x .areas)
 performs (lists l limit) x = many.turns (x .settings .width) (x .settings) l limit (x .areas)
 performs (asks i) x = lastAnswer (x .settings .width) (x .settings) i (x .areas)
@@ -34,7 +35,7 @@ performs (asks i) x = lastAnswer (x .settings .width) (x .settings) i (x .areas)
 -- an opening that was refused gives back the settings that it got: the user goes on with those from before it
 unfoldable pub leaves : Operation → State → State
 leaves (opens s) x = pick (eqb (opening (s .width) s (x .areas) .reply .number) 0) (after (opening (s .width) s (x .areas))) x
-leaves (starts i row column) x = after (performs (starts i row column) x)
+leaves (starts looks i row column) x = after (performs (starts looks i row column) x)
 leaves (turns i) x = after (performs (turns i) x)
 leaves (lists l limit) x = after (performs (lists l limit) x)
 leaves (asks i) x = after (performs (asks i) x)
@@ -56,7 +57,7 @@ listEvents w l limit x = pick (eqb (firstNo (listQuestions w (x .settings) l (x 
 -- the starts and turns that an operation is made of
 unfoldable pub eventsOf : Operation → State → List Event
 eventsOf (opens s) x = []
-eventsOf (starts i row column) x = event.starts i row column ∷ []
+eventsOf (starts looks i row column) x = event.starts looks i row column ∷ []
 eventsOf (turns i) x = event.turns i ∷ []
 eventsOf (lists l limit) x = listEvents (x .settings .width) l limit x
 eventsOf (asks i) x = []
@@ -70,7 +71,7 @@ pub record Since : Type 0 where
 unfoldable pub since : Operation → State → Since → Since
 since (opens s) x h =
     pick (eqb (opening (s .width) s (x .areas) .reply .number) 0) (record { began = after (opening (s .width) s (x .areas)); events = [] }) h
-since (starts i row column) x h = record { began = h .began; events = h .events ++ eventsOf (starts i row column) x }
+since (starts looks i row column) x h = record { began = h .began; events = h .events ++ eventsOf (starts looks i row column) x }
 since (turns i) x h = record { began = h .began; events = h .events ++ eventsOf (turns i) x }
 since (lists l limit) x h = record { began = h .began; events = h .events ++ eventsOf (lists l limit) x }
 since (asks i) x h = h

@@ -51,11 +51,11 @@ more s c = pick (leb c (s .limit)) (c + 1) (s .limit + 1)
 
 -- one more node, one more level is taken: "taken in rising number"
 unfoldable pub tookNode : Settings → Settings
-tookNode s = record { workers = s .workers; limit = s .limit; nodes = s .nodes; «nodes_taken» = s .«nodes_taken» + 1; «levels_taken» = s .«levels_taken»; width = s .width }
+tookNode s = record { workers = s .workers; limit = s .limit; nodes = s .nodes; «nodes_taken» = s .«nodes_taken» + 1; «levels_taken» = s .«levels_taken»; viewers = s .viewers; width = s .width }
 
 -- the settings with one level more taken
 unfoldable pub tookLevel : Settings → Settings
-tookLevel s = record { workers = s .workers; limit = s .limit; nodes = s .nodes; «nodes_taken» = s .«nodes_taken»; «levels_taken» = s .«levels_taken» + 1; width = s .width }
+tookLevel s = record { workers = s .workers; limit = s .limit; nodes = s .nodes; «nodes_taken» = s .«nodes_taken»; «levels_taken» = s .«levels_taken» + 1; viewers = s .viewers; width = s .width }
 
 -- Take, TakeTail: "Write K and next = H." Node i is filled, and in hand for the next kind
 unfoldable pub withNode : Kind → Settings → Head → ℕ → Memory → Step

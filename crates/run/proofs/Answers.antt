@@ -10,12 +10,13 @@ use borrow.Author.Tests.{ltb-true, leb-true}
 use Rattle.words.specs.Choice.{both}
 use Rattle.words.specs.Digits.{maxPixel}
 use Rattle.words.proofs.Choice.{true-false, pick-both, pick-true, pick-false, both-left, both-right}
+use Rattle.settings.specs.Sizes.{views}
 use Rattle.settings.specs.declared.Settings.{Settings}
 use Rattle.areas.specs.Memory.{Areas, Memory, isNode, cellAt, nodeTaken}
 use Rattle.areas.specs.declared.Cell.{Cell}
 use Rattle.areas.specs.declared.Cell.the-variants.{Next}
 use Rattle.record.specs.declared.Answer.{Answer}
-use Rattle.record.specs.declared.Answer.the-variants.{Nothing, New, Found, Full, Open}
+use Rattle.record.specs.declared.Answer.the-variants.{Nothing, New, Found, Full, Open, Absent}
 use Rattle.record.specs.declared.Kind.{Kind}
 use Rattle.record.specs.declared.Kind.the-variants.{Idle, Look, Take, Put, Read, Tail, TakeTail, Append, Level, Close, Follow, ChainHead, ChainNext, SetNext, SetLook, SetPut, SetRead, SetTail, SetAppend, SetLevel, SetClose, SetFollow, MoveEnd, Unknown}
 use Rattle.record.specs.declared.Head.{Head}
@@ -39,6 +40,7 @@ NodeBelow n (New i) = i < n
 NodeBelow n (Found i) = i < n
 NodeBelow n Full = Unit
 NodeBelow n Open = Unit
+NodeBelow n Absent = Unit
 
 module _ (w : ℕ) (s : Settings) (h : Head) (m : Memory) where
   abbrev Below : Step → Type 0
@@ -86,39 +88,43 @@ module _ (w : ℕ) (s : Settings) (h : Head) (m : Memory) where
   set-below failed v os x f = exchange-both Below w h x _ _ failed m (λ e. tt) (λ e. f)
 
   -- by kind
-  kind-below : (k : Kind) (ms : List Move) → readsBy k w s h ms m ≡ true → Below (actBy k w s h ms m)
+  viewed-below : (looks : Bool) (h′ : Head) → Below (searching.viewed looks s h′ m)
+  unfolding NodeBelow searching.viewed
+  viewed-below looks h′ = pick-both Below _ (λ e. tt) (λ e. tt)
+
+  kind-below : (looks : Bool) (k : Kind) (ms : List Move) → readsBy k w s h ms m ≡ true → Below (actBy k w looks s h ms m)
   unfolding NodeBelow actBy readsBy puts picksWith reads appends closes follows standsWith followsRef searching.look searching.take searching.put searching.read searching.readWord searching.tail searching.takeTail searching.append searching.level searching.close searching.follow searching.followWord moving.chainHead moving.chainNext moving.setNext moving.setLook moving.setPut moving.setRead moving.setReadWord moving.setMet moving.setTail moving.setAppend moving.setLevel moving.setClose moving.setFollow moving.setFollowWord moving.moveEnd
-  kind-below Idle ms y = tt
-  kind-below Look ms y = tt
-  kind-below Take ms y = take-below Put
-  kind-below Put ms y = placed-below _ _ (both-right _ _ (both-left _ _ y)) (λ e. met-below 1 _ _ (word-asked _ _ (both-right _ _ y) e))
-  kind-below Read ms y = met-below 1 _ _ (both-right _ _ y)
-  kind-below Tail ms y = tt
-  kind-below TakeTail ms y = take-below Append
-  kind-below Append ms y = placed-below _ _ (both-right _ _ (both-left _ _ y)) (λ e. met-below _ _ _ (both-left _ _ (word-asked _ _ (both-right _ _ y) e)))
-  kind-below Level ms y = level-below Close []
-  kind-below Close ms y = closed-below _ [] (λ e. met-below _ _ _ (both-left _ _ (word-asked _ _ (both-right _ _ y) e)))
-  kind-below Follow ms y = met-below _ _ _ (both-left _ _ (both-right _ _ y))
-  kind-below ChainHead ms y = chain-below _ _ _
-  kind-below ChainNext ms y = chain-below _ _ _
-  kind-below SetNext ms y = tt
-  kind-below SetLook ms y = tt
-  kind-below SetPut ms y = set-below _ _ _ _ tt
-  kind-below SetRead ms y = tt
-  kind-below SetTail ms y = tt
-  kind-below SetAppend ms y = set-below _ _ _ _ tt
-  kind-below SetLevel ms y = level-below SetClose _
-  kind-below SetClose ms y = closed-below _ _ (λ e. tt)
-  kind-below SetFollow ms y = tt
-  kind-below MoveEnd ms y = tt
-  kind-below Unknown ms y = tt
+  kind-below looks Idle ms y = tt
+  kind-below looks Look ms y = viewed-below looks _
+  kind-below looks Take ms y = take-below Put
+  kind-below looks Put ms y = placed-below _ _ (both-right _ _ (both-left _ _ y)) (λ e. met-below 1 _ _ (word-asked _ _ (both-right _ _ y) e))
+  kind-below looks Read ms y = met-below 1 _ _ (both-right _ _ y)
+  kind-below looks Tail ms y = viewed-below looks _
+  kind-below looks TakeTail ms y = take-below Append
+  kind-below looks Append ms y = placed-below _ _ (both-right _ _ (both-left _ _ y)) (λ e. met-below _ _ _ (both-left _ _ (word-asked _ _ (both-right _ _ y) e)))
+  kind-below looks Level ms y = level-below Close []
+  kind-below looks Close ms y = closed-below _ [] (λ e. met-below _ _ _ (both-left _ _ (word-asked _ _ (both-right _ _ y) e)))
+  kind-below looks Follow ms y = met-below _ _ _ (both-left _ _ (both-right _ _ y))
+  kind-below looks ChainHead ms y = chain-below _ _ _
+  kind-below looks ChainNext ms y = chain-below _ _ _
+  kind-below looks SetNext ms y = tt
+  kind-below looks SetLook ms y = tt
+  kind-below looks SetPut ms y = set-below _ _ _ _ tt
+  kind-below looks SetRead ms y = tt
+  kind-below looks SetTail ms y = tt
+  kind-below looks SetAppend ms y = set-below _ _ _ _ tt
+  kind-below looks SetLevel ms y = level-below SetClose _
+  kind-below looks SetClose ms y = closed-below _ _ (λ e. tt)
+  kind-below looks SetFollow ms y = tt
+  kind-below looks MoveEnd ms y = tt
+  kind-below looks Unknown ms y = tt
 
 -- the call of a worker that is not idle has a pixel
-pixel-fits : (w : ℕ) (s : Settings) (r : Record) (k : ℕ) → eqb k 0 ≡ false → fitsBy w s k r ≡ true → r .head .pixel ≤ maxPixel
+pixel-fits : (w : ℕ) (v : Bool) (s : Settings) (r : Record) (k : ℕ) → eqb k 0 ≡ false → fitsBy w v s k r ≡ true → r .head .pixel ≤ maxPixel
 unfolding fitsBy callFits
-pixel-fits w s r k i =
+pixel-fits w v s r k i =
     pick-both Fits (eqb k 0) (λ e y. absurd (true-false (sym e ∙ i)))
-    (λ e. pick-both Fits (leb k 10) (λ f. call _) (λ f. pick-both Fits (leb k 22) (λ g. call _) (λ g y. absurd (true-false (sym y)))))
+    (λ e y. pick-both Fits (leb k 10) (λ f. call _) (λ f. pick-both Fits (leb k 22) (λ g. call _) (λ g y. absurd (true-false (sym y)))) (both-right _ _ y))
   where
     Fits : Bool → Type 0
     Fits b = b ≡ true → r .head .pixel ≤ maxPixel
@@ -129,9 +135,9 @@ pixel-fits w s r k i =
 -- the pixel of the call of a turn that was asked question 9
 pub asked-pixel : {w : ℕ} {s : Settings} {i : ℕ} {a : Areas} {n : ℕ} → TurnAsked w s i a n → recordOf a i .head .pixel ≤ maxPixel
 unfolding question6 question7 fits
-asked-pixel {w} {s} {i} {a} y = pixel-fits w s (recordOf a i) (kindNo (recordOf a i .head .kind)) (y .busy) (both-left _ _ (y .six))
+asked-pixel {w} {s} {i} {a} y = pixel-fits w (views s i) s (recordOf a i) (kindNo (recordOf a i .head .kind)) (y .busy) (both-left _ _ (y .six))
 
 -- the answer of a turn that is carried out
-pub act-below : {w : ℕ} {s : Settings} {i : ℕ} {a : Areas} {n : ℕ} → TurnAsked w s i a n → NodeBelow (s .«nodes_taken») (act w s (recordOf a i) (memoryOf a) .answer)
+pub act-below : {w : ℕ} {s : Settings} {i : ℕ} {a : Areas} {n : ℕ} → TurnAsked w s i a n → NodeBelow (s .«nodes_taken») (act w (views s i) s (recordOf a i) (memoryOf a) .answer)
 unfolding act question6
-act-below {w} {s} {i} {a} y = kind-below w s (recordOf a i .head) (memoryOf a) (recordOf a i .head .kind) (recordOf a i .moves) (both-right _ _ (y .six))
+act-below {w} {s} {i} {a} y = kind-below w s (recordOf a i .head) (memoryOf a) (views s i) (recordOf a i .head .kind) (recordOf a i .moves) (both-right _ _ (y .six))

@@ -19,7 +19,7 @@ use Rattle.record.specs.Layout.{load, headAt}
 use Rattle.rules.specs.Operations.{Result, result, reply, refused, opening, start, turn}
 use Rattle.rules.specs.Lists.{state}
 use Rattle.text.specs.declared.Command.{Command}
-use Rattle.text.specs.declared.Command.the-variants.{Sizes, Starts, Turns, Unread}
+use Rattle.text.specs.declared.Command.the-variants.{Sizes, Starts, Views, Turns, Unread}
 use Rattle.text.proofs.Command.{the-type}
 use Rattle.printing.specs.declared.Printed.{Printed}
 use Rattle.printing.specs.declared.Printed.the-variants.{Nothing, Refused}
@@ -48,17 +48,24 @@ turn-way n i w l e f g = simp (e, g, ← f)
 -- a later line by its command
 pub carried-start :
     (n : ℕ) (s : Settings) (a : Areas) (c : Command) {i row column : ℕ} {x : Line}
-    → x ≡ startLine n (start (s .width) s i row column a) → c ≡ Starts i row column → x ≡ carried n c (state s a)
+    → x ≡ startLine n (start (s .width) s false i row column a) → c ≡ Starts i row column → x ≡ carried n c (state s a)
 unfolding carried
 carried-start n s a c e g = simp (g, e)
 
+pub carried-view :
+    (n : ℕ) (s : Settings) (a : Areas) (c : Command) {i row column : ℕ} {x : Line}
+    → x ≡ startLine n (start (s .width) s true i row column a) → c ≡ Views i row column → x ≡ carried n c (state s a)
+unfolding carried
+carried-view n s a c e g = simp (g, e)
+
 -- any other line does not read
 pub carried-other :
-    (n : ℕ) (s : Settings) (a : Areas) (c : Command) → OneOf (0 ∷ 3 ∷ []) (tagOf the-type c) → line (Refused n 10) (state s a) ≡ carried n c (state s a)
+    (n : ℕ) (s : Settings) (a : Areas) (c : Command) → OneOf (0 ∷ 4 ∷ []) (tagOf the-type c) → line (Refused n 10) (state s a) ≡ carried n c (state s a)
 unfolding carried
-carried-other n s a (Sizes workers limit nodes) k = refl
-carried-other n s a (Starts i row column) k = absurd (miss (0 ∷ 3 ∷ []) 1 tt k)
-carried-other n s a (Turns i) k = absurd (miss (0 ∷ 3 ∷ []) 2 tt k)
+carried-other n s a (Sizes workers limit nodes viewers) k = refl
+carried-other n s a (Starts i row column) k = absurd (miss (0 ∷ 4 ∷ []) 1 tt k)
+carried-other n s a (Views i row column) k = absurd (miss (0 ∷ 4 ∷ []) 2 tt k)
+carried-other n s a (Turns i) k = absurd (miss (0 ∷ 4 ∷ []) 3 tt k)
 carried-other n s a Unread k = refl
 
 pub carried-turn :
@@ -82,17 +89,18 @@ module _ (s : Settings) (a : Areas) where
 
 module _ (c : Command) (a : Areas) where
   pub first-sizes :
-      {workers limit nodes : ℕ} {s : Settings} {x : Result}
-      → x ≡ pick (leb (s .nodes) 128) (opening (s .width) s a) (refused 1 s a) → s ≡ fresh workers limit nodes width → c ≡ Sizes workers limit nodes
+      {workers limit nodes viewers : ℕ} {s : Settings} {x : Result}
+      → x ≡ pick (leb (s .nodes) 128) (opening (s .width) s a) (refused 1 s a) → s ≡ fresh workers limit nodes viewers width → c ≡ Sizes workers limit nodes viewers
       → x ≡ firstLine c a
   unfolding firstLine fresh
   first-sizes e f g = simp (g, e, f)
 
 pub first-other :
     (c : Command) (a : Areas) {r : Reply} {s : Settings}
-    → r ≡ reply 10 answer.Nothing 0 s → s ≡ fresh 0 0 0 width → OneOf (1 ∷ 2 ∷ 3 ∷ []) (tagOf the-type c) → result r a ≡ firstLine c a
+    → r ≡ reply 10 answer.Nothing 0 s → s ≡ fresh 0 0 0 0 width → OneOf (1 ∷ 2 ∷ 3 ∷ 4 ∷ []) (tagOf the-type c) → result r a ≡ firstLine c a
 unfolding firstLine
-first-other (Sizes workers limit nodes) a e f k = absurd (miss (1 ∷ 2 ∷ 3 ∷ []) 0 tt k)
+first-other (Sizes workers limit nodes viewers) a e f k = absurd (miss (1 ∷ 2 ∷ 3 ∷ 4 ∷ []) 0 tt k)
 first-other (Starts i row column) a e f k = simp (e, f)
+first-other (Views i row column) a e f k = simp (e, f)
 first-other (Turns i) a e f k = simp (e, f)
 first-other Unread a e f k = simp (e, f)

@@ -2,7 +2,7 @@
 -- Relies on rules for the questions, on turns for what a turn keeps, on what a turn answers.
 use Prim.Native.Nat.{ℕ, suc, _+_, _≤_, _<_}
 use mathlib.Core.Path.{_≡_, refl, sym, ap, subst, _∙_}
-use mathlib.Core.Bool.{true}
+use mathlib.Core.Bool.{Bool, true, false}
 use mathlib.Core.List.{List, [], _∷_}
 use native.Mathlib.Omega.{arith}
 use native.Mathlib.Decide.{ℕ-discrete}
@@ -11,7 +11,7 @@ use lib.ListN.{length}
 use borrow.Author.Tests.{leb-true, ltb-true, le-leb, eqb-true}
 use Rattle.words.specs.Choice.{every}
 use Rattle.words.proofs.Choice.{pick-both, both-left, both-right, both-true}
-use Rattle.settings.specs.Sizes.{levelCount, fresh, within, question1, question3}
+use Rattle.settings.specs.Sizes.{levelCount, fresh, views, within, question1, question3}
 use Rattle.settings.specs.Cut.{Sized}
 use Rattle.settings.specs.declared.Settings.{Settings}
 use Rattle.settings.proofs.Laws.{counts-sized}
@@ -31,10 +31,10 @@ use Rattle.rules.proofs.Three.{Three, sizes-stay, three-stays}
 use Rattle.text.specs.Parts.{lineEnd, longer, split}
 use Rattle.text.specs.Commands.{command}
 use Rattle.text.specs.declared.Command.{Command}
-use Rattle.text.specs.declared.Command.the-variants.{Sizes, Starts, Turns, Unread}
+use Rattle.text.specs.declared.Command.the-variants.{Sizes, Starts, Views, Turns, Unread}
 use Rattle.run.specs.Program.{width, mostNodes, startLine, turnPrints, turnLine, carried, firstLine, restPrints, linesPrint, openedPrints, inputPrints, prints}
 use Rattle.run.specs.Numbers.{Five, FiveCall, Small, AllSmall, NumbersSmall}
-use Rattle.run.proofs.Given.{opening-gives, start-gives, turn-gives}
+use Rattle.run.proofs.Given.{given-most, opening-gives, start-gives, turn-gives}
 use Rattle.run.proofs.Answers.{NodeBelow, asked-pixel, act-below}
 
 -- what holds of the settings from line to line: questions 1 and 3
@@ -65,18 +65,18 @@ turn-sound s i a y = by (ℕ-discrete (turn (s .width) s i a .reply .number) 0) 
     by (no z) (no e) = rw (turn-refused (s .width) s i a z e) y
 
 -- a start keeps the settings
-start-sound : (s : Settings) (i row column : ℕ) (a : Areas) → Sound s → Sound (start (s .width) s i row column a .reply .settings)
+start-sound : (s : Settings) (looks : Bool) (i row column : ℕ) (a : Areas) → Sound s → Sound (start (s .width) s looks i row column a .reply .settings)
 unfolding start unlessRefused
-start-sound s i row column a y = pick-both (λ (r : Result). Sound (r .reply .settings)) _ (λ e. y) (λ e. y)
+start-sound s looks i row column a y = pick-both (λ (r : Result). Sound (r .reply .settings)) _ (λ e. y) (λ e. y)
 
 -- an opening that is carried out
-opening-sound : (workers limit nodes : ℕ) (a : Areas) → opening width (fresh workers limit nodes width) a .reply .number ≡ 0 → Sound (opening width (fresh workers limit nodes width) a .reply .settings)
+opening-sound : (workers limit nodes viewers : ℕ) (a : Areas) → opening width (fresh workers limit nodes viewers width) a .reply .number ≡ 0 → Sound (opening width (fresh workers limit nodes viewers width) a .reply .settings)
 unfolding openingQuestions every question3 within levelCount openedSettings fresh
-opening-sound workers limit nodes a z =
-    rw (opening-done width (fresh workers limit nodes width) a z)
+opening-sound workers limit nodes viewers a z =
+    rw (opening-done width (fresh workers limit nodes viewers width) a z)
     (record {
-      one = both-left _ _ (refuses-opening width (fresh workers limit nodes width) a .numbered .carried .0 z);
-      three = both-true (le-leb 0 nodes (omega arith)) (both-true (le-leb 1 1 (omega arith)) (le-leb 1 (levelCount width (fresh workers limit nodes width)) (omega arith)));
+      one = both-left _ _ (refuses-opening width (fresh workers limit nodes viewers width) a .numbered .carried .0 z);
+      three = both-true (le-leb 0 nodes (omega arith)) (both-true (le-leb 1 1 (omega arith)) (le-leb 1 (levelCount width (fresh workers limit nodes viewers width)) (omega arith)));
     })
 
 -- what that says of the numbers
@@ -100,6 +100,7 @@ answer-five n i pixel number taken (answer.New m) l k c t b = (c, omega arith)
 answer-five n i pixel number taken (answer.Found m) l k c t b = (c, omega arith)
 answer-five n i pixel number taken answer.Full l k c t b = c
 answer-five n i pixel number taken answer.Open l k c t b = tt
+answer-five n i pixel number taken answer.Absent l k c t b = c
 
 turn-five : (n : ℕ) (s : Settings) (i : ℕ) (a : Areas) → Five n → Small (turnPrints n i (recordOf a i .head .pixel) (turn (s .width) s i a .reply .number) (turn (s .width) s i a .reply .answer))
 unfolding taken full Small turnPrints
@@ -110,28 +111,28 @@ turn-five n s i a l = by (ℕ-discrete (turn (s .width) s i a .reply .number) 0)
         let y = turn-asked (s .width) s i a (λ k l h e. omega arith) (sym (turn-number (s .width) s i a) ∙ z) in
         let c : Sized s = sized s (record { one = y .one; three = y .three }) in
         rw (done-number (s .width) s i a z, taken)
-        (answer-five n i (recordOf a i .head .pixel) 0 (s .«nodes_taken») (act (s .width) s (recordOf a i) (memoryOf a) .answer) l (omega arith) (call-five s i a y) (omega arith) (act-below y))
+        (answer-five n i (recordOf a i .head .pixel) 0 (s .«nodes_taken») (act (s .width) (views s i) s (recordOf a i) (memoryOf a) .answer) l (omega arith) (call-five s i a y) (omega arith) (act-below y))
     by (no z) (yes e) =
         let y = turn-asked (s .width) s i a (λ k l h d. omega arith) (sym (turn-number (s .width) s i a) ∙ e) in
         rw (nine-is-full (s .width) s i a e, full) (call-five s i a y)
     by (no z) (no e) =
-        let b : turn (s .width) s i a .reply .number ≤ 9 = turn-gives (s .width) s i a in
+        let b = given-most (turn-gives (s .width) s i a) in
         rw (ap (λ (r : Result). r .reply .answer) (turn-refused (s .width) s i a z e)) (l, omega arith)
 
 -- a later line: what it prints, and the settings that it leaves
 carried-five : (n : ℕ) (c : Command) (x : State) → Five n → Small (carried n c x .printed)
 unfolding Small carried startLine turnLine
-carried-five n (Sizes workers limit nodes) x l = (l, omega arith)
-carried-five n (Starts i row column) x l =
-    let b : start (x .settings .width) (x .settings) i row column (x .areas) .reply .number ≤ 9 = start-gives (x .settings .width) (x .settings) i row column (x .areas) in
-    pick-both Small _ (λ e. tt) (λ e. (l, omega arith))
+carried-five n (Sizes workers limit nodes viewers) x l = (l, omega arith)
+carried-five n (Starts i row column) x l = let b = given-most (start-gives (x .settings .width) (x .settings) false i row column (x .areas)) in pick-both Small _ (λ e. tt) (λ e. (l, omega arith))
+carried-five n (Views i row column) x l = let b = given-most (start-gives (x .settings .width) (x .settings) true i row column (x .areas)) in pick-both Small _ (λ e. tt) (λ e. (l, omega arith))
 carried-five n (Turns i) x l = turn-five n (x .settings) i (x .areas) l
 carried-five n Unread x l = (l, omega arith)
 
 carried-sound : (n : ℕ) (c : Command) (x : State) → Sound (x .settings) → Sound (carried n c x .state′ .settings)
 unfolding carried startLine turnLine
-carried-sound n (Sizes workers limit nodes) x y = y
-carried-sound n (Starts i row column) x y = start-sound (x .settings) i row column (x .areas) y
+carried-sound n (Sizes workers limit nodes viewers) x y = y
+carried-sound n (Starts i row column) x y = start-sound (x .settings) false i row column (x .areas) y
+carried-sound n (Views i row column) x y = start-sound (x .settings) true i row column (x .areas) y
 carried-sound n (Turns i) x y = turn-sound (x .settings) i (x .areas) y
 carried-sound n Unread x y = y
 
@@ -151,24 +152,26 @@ lines-five n (p ∷ q ∷ ps) x l y =
     (carried-five n (command p) x (omega arith), lines-five (suc n) (q ∷ ps) (carried n (command p) x .state′) (omega arith) (carried-sound n (command p) x y))
 
 -- the first line
-first-number : (c : Command) (a : Areas) → firstLine c a .reply .number ≤ 10
+first-number : (c : Command) (a : Areas) → firstLine c a .reply .number ≤ 17
 unfolding firstLine
-first-number (Sizes workers limit nodes) a =
-    let b : opening width (fresh workers limit nodes width) a .reply .number ≤ 9 = opening-gives width (fresh workers limit nodes width) a in
-    pick-both (λ (r : Result). r .reply .number ≤ 10) (leb nodes mostNodes) (λ e. omega arith) (λ e. omega arith)
+first-number (Sizes workers limit nodes viewers) a =
+    let b = given-most (opening-gives width (fresh workers limit nodes viewers width) a) in
+    pick-both (λ (r : Result). r .reply .number ≤ 17) (leb nodes mostNodes) (λ e. omega arith) (λ e. omega arith)
 first-number (Starts i row column) a = omega arith
+first-number (Views i row column) a = omega arith
 first-number (Turns i) a = omega arith
 first-number Unread a = omega arith
 
 first-sound : (c : Command) (a : Areas) → firstLine c a .reply .number ≡ 0 → Sound (firstLine c a .reply .settings)
 unfolding firstLine
-first-sound (Sizes workers limit nodes) a z =
-    pick-both (λ (r : Result). r .reply .number ≡ 0 → Sound (r .reply .settings)) (leb nodes mostNodes) (λ e. opening-sound workers limit nodes a) (λ e d. absurd (omega arith)) z
+first-sound (Sizes workers limit nodes viewers) a z =
+    pick-both (λ (r : Result). r .reply .number ≡ 0 → Sound (r .reply .settings)) (leb nodes mostNodes) (λ e. opening-sound workers limit nodes viewers a) (λ e d. absurd (omega arith)) z
 first-sound (Starts i row column) a z = absurd (omega arith)
+first-sound (Views i row column) a z = absurd (omega arith)
 first-sound (Turns i) a z = absurd (omega arith)
 first-sound Unread a z = absurd (omega arith)
 
-opened-five : (r : Result) (ps : List (List ℕ)) → r .reply .number ≤ 10 → (r .reply .number ≡ 0 → Sound (r .reply .settings)) → Five (2 + length ps) → AllSmall (openedPrints r ps)
+opened-five : (r : Result) (ps : List (List ℕ)) → r .reply .number ≤ 17 → (r .reply .number ≡ 0 → Sound (r .reply .settings)) → Five (2 + length ps) → AllSmall (openedPrints r ps)
 unfolding AllSmall Small openedPrints
 opened-five r ps b y l =
     pick-both AllSmall (eqb (r .reply .number) 0) (λ e. (tt, lines-five 2 ps (after r) l (y (eqb-true _ _ e)))) (λ e. ((omega arith, omega arith), tt))

@@ -47,7 +47,7 @@ unfolding pick
 picks-no b x f e = simp (e, f)
 
 -- where a run begins, and whether it goes on
-pub begin-way : {s : Settings} → s ≡ fresh 0 0 0 width → progress Begin 1 0 s ≡ begun
+pub begin-way : {s : Settings} → s ≡ fresh 0 0 0 0 width → progress Begin 1 0 s ≡ begun
 begin-way e = simp e
 
 pub goes-not : (g : Stage) → g ≡ Done → false ≡ goesOn g

@@ -20,16 +20,12 @@ use Rattle.rules.specs.Lists.{State, after}
 use Rattle.text.specs.Parts.{lineEnd, split}
 use Rattle.text.specs.Commands.{command}
 use Rattle.text.specs.declared.Command.{Command}
-use Rattle.text.specs.declared.Command.the-variants.{Sizes, Starts, Turns, Unread}
+use Rattle.text.specs.declared.Command.the-variants.{Sizes, Starts, Views, Turns, Unread}
 use Rattle.printing.specs.declared.Printed.{Printed}
 use Rattle.printing.specs.declared.Printed.the-variants.{Nothing, Refused}
 use Rattle.run.specs.Program.{width, mostNodes, startLine, turnPrints, turnLine, carried, firstLine, restPrints, linesPrint, openedPrints, inputPrints, prints}
 use Rattle.run.specs.Unread.{tenLine, tenLines, readsFirst, readsLater, unreadRest, unreadFrom, unreadInput, unreadLines, TenExactly}
-use Rattle.run.proofs.Given.{opening-gives, start-gives, turn-gives}
-
--- an operation gives at most 9
-nine : {n : ℕ} → n ≤ 9 → n ≢ 10
-nine h e = omega arith
+use Rattle.run.proofs.Given.{given-not-10, opening-gives, start-gives, turn-gives}
 
 -- a line that is refused by another number
 not-ten : (n number : ℕ) → number ≢ 10 → tenLine (Refused n number) ≡ []
@@ -47,13 +43,15 @@ turn-prints n i pixel number (answer.New m) h = refl
 turn-prints n i pixel number (answer.Found m) h = refl
 turn-prints n i pixel number answer.Full h = refl
 turn-prints n i pixel number answer.Open h = refl
+turn-prints n i pixel number answer.Absent h = refl
 
 -- a later line
 carried-ten : (n : ℕ) (c : Command) (x : State) → tenLine (carried n c x .printed) ≡ pick (readsLater c) [] (n ∷ [])
 unfolding tenLine carried startLine turnLine readsLater pick
-carried-ten n (Sizes workers limit nodes) x = refl
-carried-ten n (Starts i row column) x = start-prints n _ (nine (start-gives (x .settings .width) (x .settings) i row column (x .areas)))
-carried-ten n (Turns i) x = turn-prints n i _ _ _ (nine (turn-gives (x .settings .width) (x .settings) i (x .areas)))
+carried-ten n (Sizes workers limit nodes viewers) x = refl
+carried-ten n (Starts i row column) x = start-prints n _ (given-not-10 (start-gives (x .settings .width) (x .settings) false i row column (x .areas)))
+carried-ten n (Views i row column) x = start-prints n _ (given-not-10 (start-gives (x .settings .width) (x .settings) true i row column (x .areas)))
+carried-ten n (Turns i) x = turn-prints n i _ _ _ (given-not-10 (turn-gives (x .settings .width) (x .settings) i (x .areas)))
 carried-ten n Unread x = refl
 
 rest-ten : (n : ℕ) (p : List ℕ) (x : State) → tenLines (restPrints n p x) ≡ unreadRest n p
@@ -77,15 +75,16 @@ opened-ten r ps h = go (eqb (r .reply .number) 0) refl
     go true e = simp e (lines-ten 2 ps (after r))
     go false e = simp (e, ne-eqb (r .reply .number) 10 h)
 
-sizes-not-ten : (workers limit nodes : ℕ) (a : Areas) → firstLine (Sizes workers limit nodes) a .reply .number ≢ 10
+sizes-not-ten : (workers limit nodes viewers : ℕ) (a : Areas) → firstLine (Sizes workers limit nodes viewers) a .reply .number ≢ 10
 unfolding firstLine
-sizes-not-ten workers limit nodes a =
-    pick-both (λ (r : Result). r .reply .number ≢ 10) (leb nodes mostNodes) (λ e. nine (opening-gives width (fresh workers limit nodes width) a)) (λ e z. omega arith)
+sizes-not-ten workers limit nodes viewers a =
+    pick-both (λ (r : Result). r .reply .number ≢ 10) (leb nodes mostNodes) (λ e. given-not-10 (opening-gives width (fresh workers limit nodes viewers width) a)) (λ e z. omega arith)
 
 first-ten : (c : Command) (ps : List (List ℕ)) (a : Areas) → tenLines (openedPrints (firstLine c a) ps) ≡ pick (readsFirst c) (pick (eqb (firstLine c a .reply .number) 0) (unreadFrom 2 ps) []) (1 ∷ [])
 unfolding readsFirst tenLines tenLine openedPrints firstLine pick
-first-ten (Sizes workers limit nodes) ps a = opened-ten (firstLine (Sizes workers limit nodes) a) ps (sizes-not-ten workers limit nodes a)
+first-ten (Sizes workers limit nodes viewers) ps a = opened-ten (firstLine (Sizes workers limit nodes viewers) a) ps (sizes-not-ten workers limit nodes viewers a)
 first-ten (Starts i row column) ps a = refl
+first-ten (Views i row column) ps a = refl
 first-ten (Turns i) ps a = refl
 first-ten Unread ps a = refl
 

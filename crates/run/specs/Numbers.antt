@@ -4,7 +4,7 @@ use Prim.Native.Nat.{ℕ, _/_, _%_, _<_}
 use mathlib.Core.List.{List, [], _∷_}
 use Rattle.areas.specs.Memory.{Areas}
 use Rattle.printing.specs.declared.Printed.{Printed}
-use Rattle.printing.specs.declared.Printed.the-variants.{Nothing, Header, New, Found, Full, Refused, End}
+use Rattle.printing.specs.declared.Printed.the-variants.{Nothing, Header, New, Found, Full, Absent, Refused, End}
 use Rattle.run.specs.Program.{prints}
 
 -- a number of at most five digits
@@ -22,6 +22,7 @@ Small Header = Unit
 Small (New worker pixel node) = FiveCall worker pixel × Five node
 Small (Found worker pixel node) = FiveCall worker pixel × Five node
 Small (Full worker pixel) = FiveCall worker pixel
+Small (Absent worker pixel) = FiveCall worker pixel
 Small (Refused line number) = Five line × Five number
 Small (End nodes levels) = Five nodes × Five levels
 

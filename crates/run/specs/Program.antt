@@ -1,6 +1,7 @@
 -- The text program: what each line prints and leaves, and the whole run over the bytes of its input.
 -- Relies on the text format and on the operations' definitions.
 use Prim.Native.Nat.{ℕ, suc, _*_}
+use mathlib.Core.Bool.{true, false}
 use mathlib.Core.List.{List, [], _∷_, _++_}
 use lib.Dec.{eqb, leb}
 use lib.ListN.{length, replicate}
@@ -16,9 +17,9 @@ use Rattle.text.specs.Parts.{lineEnd, split}
 use Rattle.text.specs.Commands.{command}
 use Rattle.printing.specs.Printing.{bytesOf}
 use Rattle.text.specs.declared.Command.{Command}
-use Rattle.text.specs.declared.Command.the-variants.{Sizes, Starts, Turns, Unread}
+use Rattle.text.specs.declared.Command.the-variants.{Sizes, Starts, Views, Turns, Unread}
 use Rattle.printing.specs.declared.Printed.{Printed}
-use Rattle.printing.specs.declared.Printed.the-variants.{Nothing, Header, New, Found, Full, Refused, End}
+use Rattle.printing.specs.declared.Printed.the-variants.{Nothing, Header, New, Found, Full, Absent, Refused, End}
 
 -- what a line prints, and the state that it leaves
 pub record Line : Type 0 where
@@ -40,6 +41,7 @@ turnPrints n i pixel number (answer.New m) = New i pixel m
 turnPrints n i pixel number (answer.Found m) = Found i pixel m
 turnPrints n i pixel number answer.Full = Full i pixel
 turnPrints n i pixel number answer.Open = Nothing
+turnPrints n i pixel number answer.Absent = Absent i pixel
 
 -- pixel: that of the worker's call, as its record has it before the turn
 unfoldable pub turnLine : ℕ → ℕ → ℕ → Result → Line
@@ -51,8 +53,9 @@ width = 3
 
 -- line n, which is not the first: a line of another shape is 10, and so is a second line s
 unfoldable pub carried : ℕ → Command → State → Line
-carried n (Sizes workers limit nodes) x = line (Refused n 10) x
-carried n (Starts i row column) x = startLine n (start (x .settings .width) (x .settings) i row column (x .areas))
+carried n (Sizes workers limit nodes viewers) x = line (Refused n 10) x
+carried n (Starts i row column) x = startLine n (start (x .settings .width) (x .settings) false i row column (x .areas))
+carried n (Views i row column) x = startLine n (start (x .settings .width) (x .settings) true i row column (x .areas))
 carried n (Turns i) x = turnLine n i (recordOf (x .areas) i .head .pixel) (turn (x .settings .width) (x .settings) i (x .areas))
 carried n Unread x = line (Refused n 10) x
 
@@ -60,12 +63,15 @@ carried n Unread x = line (Refused n 10) x
 abbrev pub mostNodes : ℕ
 mostNodes = 128
 
--- "First line s,workers,limit,nodes (here nodes above 128 is refusal 1)"; another first line does not read
+-- "First line s,workers,limit,nodes (here nodes above 128 is refusal 1)"; document 02: it "may end in a fifth field" with the number of viewers. Another first line does
+-- not read
 unfoldable pub firstLine : Command → Areas → Result
-firstLine (Sizes workers limit nodes) a = pick (leb nodes mostNodes) (opening width (fresh workers limit nodes width) a) (refused 1 (fresh workers limit nodes width) a)
-firstLine (Starts i row column) a = refused 10 (fresh 0 0 0 width) a
-firstLine (Turns i) a = refused 10 (fresh 0 0 0 width) a
-firstLine Unread a = refused 10 (fresh 0 0 0 width) a
+firstLine (Sizes workers limit nodes viewers) a =
+    pick (leb nodes mostNodes) (opening width (fresh workers limit nodes viewers width) a) (refused 1 (fresh workers limit nodes viewers width) a)
+firstLine (Starts i row column) a = refused 10 (fresh 0 0 0 0 width) a
+firstLine (Views i row column) a = refused 10 (fresh 0 0 0 0 width) a
+firstLine (Turns i) a = refused 10 (fresh 0 0 0 0 width) a
+firstLine Unread a = refused 10 (fresh 0 0 0 0 width) a
 
 -- "The last line is the flagged count, which is nodes taken, then levels taken."
 abbrev pub endLine : State → Printed
@@ -104,7 +110,7 @@ spelled (p ∷ ps) = bytesOf p ++ spelled ps
 -- the memory that the program lends: zeros, with room for the most nodes and workers at every chain limit
 abbrev pub lent : Areas
 lent =
-    areas (replicate (nodeWords * mostNodes) 0) (replicate (levelWords width * levelCount width (fresh maxWorkers 1 mostNodes width)) 0)
+    areas (replicate (nodeWords * mostNodes) 0) (replicate (levelWords width * levelCount width (fresh maxWorkers 1 mostNodes 0 width)) 0)
     (replicate (workerWords * maxWorkers) 0)
 
 -- the bytes that the program writes for the bytes that it reads

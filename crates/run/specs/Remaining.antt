@@ -30,7 +30,7 @@ told x p = record { printed = x; progress = p }
 
 -- where a run begins: nothing is printed yet, line 1 comes next
 abbrev pub begun : Progress
-begun = progress Begin 1 0 (fresh 0 0 0 width)
+begun = progress Begin 1 0 (fresh 0 0 0 0 width)
 
 -- what is still to be printed, by the stage. At the beginning it is all.
 unfoldable pub remainingAt : Stage → Progress → List ℕ → Areas → List Printed

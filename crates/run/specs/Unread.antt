@@ -11,9 +11,9 @@ use Rattle.areas.specs.Memory.{Areas}
 use Rattle.text.specs.Parts.{lineEnd, split}
 use Rattle.text.specs.Commands.{command}
 use Rattle.text.specs.declared.Command.{Command}
-use Rattle.text.specs.declared.Command.the-variants.{Sizes, Starts, Turns, Unread}
+use Rattle.text.specs.declared.Command.the-variants.{Sizes, Starts, Views, Turns, Unread}
 use Rattle.printing.specs.declared.Printed.{Printed}
-use Rattle.printing.specs.declared.Printed.the-variants.{Nothing, Header, New, Found, Full, Refused, End}
+use Rattle.printing.specs.declared.Printed.the-variants.{Nothing, Header, New, Found, Full, Absent, Refused, End}
 use Rattle.run.specs.Program.{firstLine, prints}
 
 -- "A refused line prints refused,line,number": the line, where the number is 10
@@ -23,6 +23,7 @@ tenLine Header = []
 tenLine (New i pixel node) = []
 tenLine (Found i pixel node) = []
 tenLine (Full i pixel) = []
+tenLine (Absent i pixel) = []
 tenLine (Refused line number) = pick (eqb number 10) (line ∷ []) []
 tenLine (End nodes levels) = []
 
@@ -33,15 +34,17 @@ tenLines (p ∷ ps) = tenLine p ++ tenLines ps
 
 -- "First line s,workers,limit,nodes ..": a line s reads as the first one alone
 unfoldable pub readsFirst : Command → Bool
-readsFirst (Sizes workers limit nodes) = true
+readsFirst (Sizes workers limit nodes viewers) = true
 readsFirst (Starts i row column) = false
+readsFirst (Views i row column) = false
 readsFirst (Turns i) = false
 readsFirst Unread = false
 
--- ".. then c,worker,row,column starts and t,worker turns"
+-- ".. then c,worker,row,column starts and t,worker turns", "A viewer's call, program line v,worker,row,column"
 unfoldable pub readsLater : Command → Bool
-readsLater (Sizes workers limit nodes) = false
+readsLater (Sizes workers limit nodes viewers) = false
 readsLater (Starts i row column) = true
+readsLater (Views i row column) = true
 readsLater (Turns i) = true
 readsLater Unread = false
 

@@ -71,6 +71,7 @@ fn start_prints(n: u32, number: u32) -> Printed
 // Line n is a start.
 fn start_line(
     n: u32,
+    looks: bool,
     i: u32,
     row: u32,
     column: u32,
@@ -79,9 +80,9 @@ fn start_line(
     levels: &[u32],
     workers: &mut [u32],
 ) -> Said
-    ensures { λ r. ⌜ line (r .printed) (state (r .settings) (areas (now (nodes .entry)) (now (levels .entry)) (now (workers .exit)))) ≡ startLine n (start (s .width) s i row column (areas (now (nodes .entry)) (now (levels .entry)) (now (workers .entry)))) ⌝ }
+    ensures { λ r. ⌜ line (r .printed) (state (r .settings) (areas (now (nodes .entry)) (now (levels .entry)) (now (workers .exit)))) ≡ startLine n (start (s .width) s looks i row column (areas (now (nodes .entry)) (now (levels .entry)) (now (workers .entry)))) ⌝ }
 {
-    let r = start(s, i, row, column, nodes, levels, workers);
+    let r = start(s, looks, i, row, column, nodes, levels, workers);
     let s2 = r.settings;
     Said {
         printed: start_prints(n, r.number),
@@ -99,6 +100,7 @@ fn turn_prints(n: u32, i: u32, pixel: u32, number: u32, a: Answer) -> Printed
         Answer::Found(m) => Printed::Found(i, pixel, m),
         Answer::Full => Printed::Full(i, pixel),
         Answer::Open => Printed::Nothing,
+        Answer::Absent => Printed::Absent(i, pixel),
     }
 }
 
@@ -135,7 +137,28 @@ pub fn carry(
     ensures { λ r. ⌜ line (r .printed) (state (r .settings) (areas (now (nodes .exit)) (now (levels .exit)) (now (workers .exit)))) ≡ carried n c (state s (areas (now (nodes .entry)) (now (levels .entry)) (now (workers .entry)))) ⌝ }
 {
     match c {
-        Command::Starts(i, row, column) => start_line(n, i, row, column, s, nodes, levels, workers),
+        Command::Starts(i, row, column) => start_line(
+            n,
+            false,
+            i,
+            row,
+            column,
+            s,
+            nodes,
+            levels,
+            workers,
+        ),
+        Command::Views(i, row, column) => start_line(
+            n,
+            true,
+            i,
+            row,
+            column,
+            s,
+            nodes,
+            levels,
+            workers,
+        ),
         Command::Turns(i) => turn_line(n, i, s, nodes, levels, workers),
         _ => Said {
             printed: Printed::Refused(n, 10),
@@ -160,13 +183,13 @@ pub fn open_first(c: Command, nodes: &[u32], levels: &mut [u32], workers: &mut [
     ensures { λ r. ⌜ result r (areas (now (nodes .entry)) (now (levels .exit)) (now (workers .exit))) ≡ firstLine c (areas (now (nodes .entry)) (now (levels .entry)) (now (workers .entry))) ⌝ }
 {
     match c {
-        Command::Sizes(count, limit, most) => open_sizes(
-            Settings::fresh(count, limit, most, Settings::WIDTH_3),
+        Command::Sizes(count, limit, most, viewers) => open_sizes(
+            Settings::fresh(count, limit, most, viewers, Settings::WIDTH_3),
             nodes,
             levels,
             workers,
         ),
-        _ => refusal(10, Settings::fresh(0, 0, 0, Settings::WIDTH_3)),
+        _ => refusal(10, Settings::fresh(0, 0, 0, 0, Settings::WIDTH_3)),
     }
 }
 
@@ -178,7 +201,7 @@ pub fn begin() -> Progress
         stage: Stage::Begin,
         line: 1,
         at: 0,
-        settings: Settings::fresh(0, 0, 0, Settings::WIDTH_3),
+        settings: Settings::fresh(0, 0, 0, 0, Settings::WIDTH_3),
     }
 }
 

@@ -1,7 +1,7 @@
 -- The ways through a last answer: its questions in their order, and the answer that a record holds.
 -- Relies on Questions for the first four.
 use mathlib.Core.Path.{_≡_}
-use mathlib.Core.Bool.{true, false}
+use mathlib.Core.Bool.{true, false, Bool}
 use mathlib.Core.List.{List, [], _∷_}
 use Prim.Native.Nat.{ℕ}
 use lib.Dec.{eqb}
@@ -9,7 +9,7 @@ use lib.ListN.{length}
 use borrow.Author.Tests.{ne-eqb}
 use Rattle.words.specs.Choice.{pick, asks, firstNo}
 use Rattle.settings.specs.declared.Settings.{Settings}
-use Rattle.settings.specs.Sizes.{question1, question2, question3}
+use Rattle.settings.specs.Sizes.{question1, question2, question3, views}
 use Rattle.settings.specs.Cut.{firstThree}
 use Rattle.areas.specs.Memory.{areas}
 use Rattle.record.specs.declared.Answer.{Answer}
@@ -38,26 +38,26 @@ module _ (w : ℕ) (s : Settings) (i : ℕ) (n g k : List ℕ) where
   -- the first no of a last answer's questions
   pub last-number :
       let f = firstFour w s i (length n) (length g) (length k) in
-      firstNo (lastQuestions w s i (areas n g k)) ≡ pick (eqb f 0) (pick (fits w s (load k i)) 0 6) f
+      firstNo (lastQuestions w s i (areas n g k)) ≡ pick (eqb f 0) (pick (fits w (views s i) s (load k i)) 0 6) f
   unfolding lastQuestions firstFour firstThree question6Record firstNo
   last-number =
       after-four (question1 s) (question2 w s (length n) (length g) (length k)) (question3 w s) (question4 s i)
-      (asks 6 (fits w s (load k i)) ∷ [])
+      (asks 6 (fits w (views s i) s (load k i)) ∷ [])
 
   -- the ways through a last answer's questions
   pub last-fits :
-      {f : ℕ}
-      → fits w s (load k i) ≡ true → f ≡ firstFour w s i (length n) (length g) (length k) → f ≡ 0
+      {f : ℕ} {v : Bool}
+      → fits w v s (load k i) ≡ true → v ≡ views s i → f ≡ firstFour w s i (length n) (length g) (length k) → f ≡ 0
       → 0 ≡ firstNo (lastQuestions w s i (areas n g k))
   unfolding pick
-  last-fits t b e = simp (last-number, ← b, e, t)
+  last-fits t v b e = simp (last-number, ← b, e, ← v, t)
 
   pub last-unfit :
-      {f : ℕ}
-      → fits w s (load k i) ≡ false → f ≡ firstFour w s i (length n) (length g) (length k) → f ≡ 0
+      {f : ℕ} {v : Bool}
+      → fits w v s (load k i) ≡ false → v ≡ views s i → f ≡ firstFour w s i (length n) (length g) (length k) → f ≡ 0
       → 6 ≡ firstNo (lastQuestions w s i (areas n g k))
   unfolding pick
-  last-unfit t b e = simp (last-number, ← b, e, t)
+  last-unfit t v b e = simp (last-number, ← b, e, ← v, t)
 
   pub last-four :
       {f : ℕ} → f ≡ firstFour w s i (length n) (length g) (length k) → (f ≡ 0 → ⊥) → f ≡ firstNo (lastQuestions w s i (areas n g k))

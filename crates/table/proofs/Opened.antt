@@ -27,7 +27,7 @@ module _ (w : ℕ) (s : Settings) (n g k : List ℕ) where
 
   pub open-done :
       {r : Reply} {t : Settings} {g′ k′ : List ℕ} {m q : ℕ}
-      → r ≡ reply 0 Nothing 0 t → t ≡ fresh (s .workers) (s .limit) (s .nodes) (s .width) → k′ ≡ fill k 0 m 0 → m ≡ workerWords * s .workers
+      → r ≡ reply 0 Nothing 0 t → t ≡ fresh (s .workers) (s .limit) (s .nodes) (s .viewers) (s .width) → k′ ≡ fill k 0 m 0 → m ≡ workerWords * s .workers
       → g′ ≡ fillLevel w g 0 none 0 → q ≡ openingTwo w s (length n) (length g) (length k) → q ≡ 0
       → result r (areas n g′ k′) ≡ opening w s (areas n g k)
   unfolding opening unlessRefused openedSettings openedAreas pick

@@ -11,7 +11,7 @@ use Rattle.words.specs.Choice.{pick, both, asks, firstNo}
 use Rattle.words.specs.Digits.{maxSide, pixelNumber}
 use Rattle.words.proofs.Choice.{both-left, both-right}
 use Rattle.settings.specs.declared.Settings.{Settings}
-use Rattle.settings.specs.Sizes.{question1, question2, question3}
+use Rattle.settings.specs.Sizes.{question1, question2, question3, views}
 use Rattle.settings.specs.Cut.{firstThree}
 use Rattle.settings.proofs.Laws.{pick-zero}
 use Rattle.areas.specs.Memory.{areas}
@@ -22,9 +22,9 @@ use Rattle.record.specs.Kinds.{kindNo}
 use Rattle.record.specs.Layout.{load, headAt, store, storeHead, storeMoves}
 use Rattle.record.specs.Fits.{fits}
 use Rattle.rules.specs.Heads.{started}
-use Rattle.rules.specs.Asked.{question4, question5, question6Record, question7}
+use Rattle.rules.specs.Asked.{question4, question5, question6Record, question7, question17}
 use Rattle.rules.specs.Operations.{result, reply, unlessRefused, startQuestions, startedAreas, start}
-use Rattle.table.specs.Cut.{firstFour, sixSeven, begun}
+use Rattle.table.specs.Cut.{firstFour, afterFive, begun}
 use Rattle.table.proofs.Questions.{both-zero, after-four}
 
 -- whether a head is idle
@@ -45,13 +45,27 @@ module _ (row column : ℕ) where
   unfolding question5
   frame-column t = leb-true _ _ (both-right (leb row maxSide) _ t)
 
--- questions 6 and 7 of a record
+-- question 17
+module _ (s : Settings) (i : ℕ) {looks v : Bool} where
+  pub right-looks : v ≡ views s i → looks ≡ true → v ≡ question17 s looks i
+  unfolding question17 pick
+  right-looks a e = simp (a, e)
+
+  pub right-viewer : v ≡ views s i → v ≡ true → looks ≡ false → false ≡ question17 s looks i
+  unfolding question17 pick
+  right-viewer a t e = simp (e, sym a ∙ t)
+
+  pub right-places : v ≡ views s i → v ≡ false → looks ≡ false → true ≡ question17 s looks i
+  unfolding question17 pick
+  right-places a t e = simp (e, sym a ∙ t)
+
+-- questions 17, 6 and 7
 pub record-way :
-    (w : ℕ) (s : Settings) (k : List ℕ) (i : ℕ) {q : ℕ} {x y : Bool} {h : Head}
-    → q ≡ pick x (pick y 0 7) 6 → y ≡ eqb (kindNo (h .kind)) 0 → x ≡ fits w s (load k i) → h ≡ headAt k i
-    → q ≡ sixSeven w s (load k i)
-unfolding sixSeven question7 load
-record-way w s k i a b c d = simp (a, b, c, d)
+    (w : ℕ) (s : Settings) (looks : Bool) (k : List ℕ) (i : ℕ) {q : ℕ} {v x y z : Bool} {h : Head}
+    → q ≡ pick z (pick x (pick y 0 7) 6) 17 → z ≡ question17 s looks i → y ≡ eqb (kindNo (h .kind)) 0 → x ≡ fits w v s (load k i) → v ≡ views s i → h ≡ headAt k i
+    → q ≡ afterFive w s looks i (load k i)
+unfolding afterFive question7 load
+record-way w s looks k i a z b c v d = simp (a, z, b, c, v, d)
 
 -- the record that a start writes
 pub begin-way :
@@ -60,62 +74,62 @@ pub begin-way :
 unfolding begun
 begin-way i row column k a b c d = simp (a, b, c, d)
 
-module _ (w : ℕ) (s : Settings) (i row column : ℕ) (n g k : List ℕ) where
+module _ (w : ℕ) (s : Settings) (looks : Bool) (i row column : ℕ) (n g k : List ℕ) where
   -- the first no of a start's questions
   pub start-number :
       let f = firstFour w s i (length n) (length g) (length k) in
-      firstNo (startQuestions w s i row column (areas n g k))
-      ≡ pick (eqb f 0) (pick (question5 row column) (sixSeven w s (load k i)) 5) f
-  unfolding startQuestions firstFour firstThree sixSeven question6Record firstNo
+      firstNo (startQuestions w s looks i row column (areas n g k))
+      ≡ pick (eqb f 0) (pick (question5 row column) (afterFive w s looks i (load k i)) 5) f
+  unfolding startQuestions firstFour firstThree afterFive question6Record firstNo
   start-number =
       after-four (question1 s) (question2 w s (length n) (length g) (length k)) (question3 w s) (question4 s i)
-      (asks 5 (question5 row column) ∷ asks 6 (fits w s (load k i)) ∷ asks 7 (question7 (load k i)) ∷ [])
+      (asks 5 (question5 row column) ∷ asks 17 (question17 s looks i) ∷ asks 6 (fits w (views s i) s (load k i)) ∷ asks 7 (question7 (load k i)) ∷ [])
 
   -- the ways through a start's questions
   pub start-record :
       {x f : ℕ}
-      → x ≡ sixSeven w s (load k i) → question5 row column ≡ true → f ≡ firstFour w s i (length n) (length g) (length k) → f ≡ 0
-      → x ≡ firstNo (startQuestions w s i row column (areas n g k))
+      → x ≡ afterFive w s looks i (load k i) → question5 row column ≡ true → f ≡ firstFour w s i (length n) (length g) (length k) → f ≡ 0
+      → x ≡ firstNo (startQuestions w s looks i row column (areas n g k))
   unfolding pick
   start-record a t b e = simp (start-number, ← b, e, t, a)
 
   pub start-frame :
       {f : ℕ}
       → question5 row column ≡ false → f ≡ firstFour w s i (length n) (length g) (length k) → f ≡ 0
-      → 5 ≡ firstNo (startQuestions w s i row column (areas n g k))
+      → 5 ≡ firstNo (startQuestions w s looks i row column (areas n g k))
   unfolding pick
   start-frame t b e = simp (start-number, ← b, e, t)
 
   pub start-four :
       {f : ℕ}
-      → f ≡ firstFour w s i (length n) (length g) (length k) → (f ≡ 0 → ⊥) → f ≡ firstNo (startQuestions w s i row column (areas n g k))
+      → f ≡ firstFour w s i (length n) (length g) (length k) → (f ≡ 0 → ⊥) → f ≡ firstNo (startQuestions w s looks i row column (areas n g k))
   unfolding pick
   start-four b e = simp (start-number, ← b, ne-eqb _ _ e)
 
   -- a yes to all: row and column are in range
-  start-yes : {q : ℕ} → q ≡ firstNo (startQuestions w s i row column (areas n g k)) → q ≡ 0 → question5 row column ≡ true
+  start-yes : {q : ℕ} → q ≡ firstNo (startQuestions w s looks i row column (areas n g k)) → q ≡ 0 → question5 row column ≡ true
   start-yes a e =
-      let x = pick (question5 row column) (sixSeven w s (load k i)) 5 in
+      let x = pick (question5 row column) (afterFive w s looks i (load k i)) 5 in
       let z = both-zero (firstFour w s i (length n) (length g) (length k)) x (sym start-number ∙ sym a ∙ e) in
-      pick-zero (question5 row column) (sixSeven w s (load k i)) 4 (z .1)
+      pick-zero (question5 row column) (afterFive w s looks i (load k i)) 4 (z .1)
 
-  pub start-row : {q : ℕ} → q ≡ firstNo (startQuestions w s i row column (areas n g k)) → q ≡ 0 → row ≤ 4095
+  pub start-row : {q : ℕ} → q ≡ firstNo (startQuestions w s looks i row column (areas n g k)) → q ≡ 0 → row ≤ 4095
   start-row a e = frame-row row column (start-yes a e)
 
-  pub start-column : {q : ℕ} → q ≡ firstNo (startQuestions w s i row column (areas n g k)) → q ≡ 0 → column ≤ 4095
+  pub start-column : {q : ℕ} → q ≡ firstNo (startQuestions w s looks i row column (areas n g k)) → q ≡ 0 → column ≤ 4095
   start-column a e = frame-column row column (start-yes a e)
 
   -- the ways through a start
   pub start-done :
       {r : Reply} {k′ : List ℕ} {q : ℕ}
-      → r ≡ reply 0 Open 0 s → k′ ≡ begun i row column k → q ≡ firstNo (startQuestions w s i row column (areas n g k)) → q ≡ 0
-      → result r (areas n g k′) ≡ start w s i row column (areas n g k)
+      → r ≡ reply 0 Open 0 s → k′ ≡ begun i row column k → q ≡ firstNo (startQuestions w s looks i row column (areas n g k)) → q ≡ 0
+      → result r (areas n g k′) ≡ start w s looks i row column (areas n g k)
   unfolding start unlessRefused startedAreas begun store storeMoves load pick
   start-done a b c e = simp (← c, e, a, b)
 
   pub start-refused :
       {r : Reply} {q : ℕ}
-      → r ≡ reply q Nothing 0 s → q ≡ firstNo (startQuestions w s i row column (areas n g k)) → (q ≡ 0 → ⊥)
-      → result r (areas n g k) ≡ start w s i row column (areas n g k)
+      → r ≡ reply q Nothing 0 s → q ≡ firstNo (startQuestions w s looks i row column (areas n g k)) → (q ≡ 0 → ⊥)
+      → result r (areas n g k) ≡ start w s looks i row column (areas n g k)
   unfolding start unlessRefused pick
   start-refused a c e = simp (← c, ne-eqb _ _ e, a)

@@ -11,9 +11,9 @@ ghost use Rattle.areas.specs.Memory.{areas};
 ghost use Rattle.record.specs.Kinds.{kindNo};
 ghost use Rattle.record.specs.Layout.{load};
 ghost use Rattle.rules.specs.Heads.{started};
-ghost use Rattle.rules.specs.Asked.{question5};
+ghost use Rattle.rules.specs.Asked.{question5, question17};
 ghost use Rattle.rules.specs.Operations.{result, reply, opening, startQuestions, start, lastQuestions, lastAnswer, lastOf};
-ghost use Rattle.table.specs.Cut.{firstFour, sixSeven, begun};
+ghost use Rattle.table.specs.Cut.{firstFour, afterFive, begun};
 use areas::fill_level;
 use record::Answer;
 use record::Head;
@@ -60,7 +60,10 @@ pub fn open(s: Settings, nodes: &[u32], levels: &mut [u32], workers: &mut [u32])
     if q == 0 {
         fill_level(s.width, levels, 0, 4294967295, 0);
         fill_words(workers, 0, word_place(s.workers, 0), 0);
-        refusal(0, Settings::fresh(s.workers, s.limit, s.nodes, s.width))
+        refusal(
+            0,
+            Settings::fresh(s.workers, s.limit, s.nodes, s.viewers, s.width),
+        )
     } else {
         refusal(q, s)
     }
@@ -117,26 +120,47 @@ pub fn refused_worker(s: Settings, i: u32, nodes: &[u32], levels: &[u32], worker
     }
 }
 
-// The number of the first no, given the answers to questions 6 and 7.
-fn six_or_seven(fit: bool, idle: bool) -> u32
-    ensures { λ r. ⌜ r ≡ pick fit (pick idle 0 7) 6 ⌝ }
+// Question 17: a looking call is a viewer's, a placing call another worker's.
+fn right_call(s: Settings, looks: bool, i: u32) -> bool
+    ensures { λ r. ⌜ r ≡ question17 s looks i ⌝ }
 {
-    if fit { if idle { 0 } else { 7 } } else { 6 }
+    let v = s.views(i);
+    if looks {
+        v
+    } else {
+        if v { false } else { true }
+    }
 }
 
-// Questions 6 and 7, which a start asks of the record of worker i.
-fn refused_record(s: Settings, i: u32, workers: &[u32]) -> u32
+// The number of the first no, given the answers to questions 17, 6 and 7.
+fn after_five(right: bool, fit: bool, idle: bool) -> u32
+    ensures { λ r. ⌜ r ≡ pick right (pick fit (pick idle 0 7) 6) 17 ⌝ }
+{
+    if right {
+        if fit { if idle { 0 } else { 7 } } else { 6 }
+    } else {
+        17
+    }
+}
+
+// Questions 17, 6 and 7, which a start asks of worker i and its record.
+fn refused_record(s: Settings, looks: bool, i: u32, workers: &[u32]) -> u32
     requires { ⌜ DigitWidth (s .width) ⌝ }
     requires { ⌜ s .limit ≤ maxLimit ⌝ }
-    ensures { λ r. ⌜ r ≡ sixSeven (s .width) s (load (now (workers .entry)) i) ⌝ }
+    ensures { λ r. ⌜ r ≡ afterFive (s .width) s looks i (load (now (workers .entry)) i) ⌝ }
 {
     let h = Head::load(workers, i);
-    six_or_seven(fits(s, h, workers, i), is_idle(h))
+    after_five(
+        right_call(s, looks, i),
+        fits(s.views(i), s, h, workers, i),
+        is_idle(h),
+    )
 }
 
-// Questions 1 to 7, which a start asks.
+// The questions of a start: 1 to 5, 17, 6 and 7.
 fn refused_start(
     s: Settings,
+    looks: bool,
     i: u32,
     row: u32,
     column: u32,
@@ -144,13 +168,13 @@ fn refused_start(
     levels: &[u32],
     workers: &[u32],
 ) -> u32
-    ensures { λ r. ⌜ r ≡ firstNo (startQuestions (s .width) s i row column (areas (now (nodes .entry)) (now (levels .entry)) (now (workers .entry)))) ⌝ }
+    ensures { λ r. ⌜ r ≡ firstNo (startQuestions (s .width) s looks i row column (areas (now (nodes .entry)) (now (levels .entry)) (now (workers .entry)))) ⌝ }
 {
     let four = refused_worker(s, i, nodes, levels, workers);
     let frame = in_frame(row, column);
     if four == 0 {
         if frame {
-            refused_record(s, i, workers)
+            refused_record(s, looks, i, workers)
         } else {
             5
         }
@@ -169,9 +193,10 @@ fn begin_call(i: u32, row: u32, column: u32, workers: &mut [u32])
     started(pixel_number(row, column), h).store(0, workers, i);
 }
 
-// Start of a call of worker i for the pixel at row and column.
+// Start of a call of worker i for the pixel at row and column: it places the pixel, or looks for it.
 pub fn start(
     s: Settings,
+    looks: bool,
     i: u32,
     row: u32,
     column: u32,
@@ -179,9 +204,9 @@ pub fn start(
     levels: &[u32],
     workers: &mut [u32],
 ) -> Reply
-    ensures { λ r. ⌜ result r (areas (now (nodes .entry)) (now (levels .entry)) (now (workers .exit))) ≡ start (s .width) s i row column (areas (now (nodes .entry)) (now (levels .entry)) (now (workers .entry))) ⌝ }
+    ensures { λ r. ⌜ result r (areas (now (nodes .entry)) (now (levels .entry)) (now (workers .exit))) ≡ start (s .width) s looks i row column (areas (now (nodes .entry)) (now (levels .entry)) (now (workers .entry))) ⌝ }
 {
-    let q = refused_start(s, i, row, column, nodes, levels, workers);
+    let q = refused_start(s, looks, i, row, column, nodes, levels, workers);
     if q == 0 {
         begin_call(i, row, column, workers);
         replied(0, Answer::Open, s)
@@ -205,7 +230,11 @@ fn refused_last(s: Settings, i: u32, nodes: &[u32], levels: &[u32], workers: &[u
     let q = refused_worker(s, i, nodes, levels, workers);
     if q == 0 {
         let h = Head::load(workers, i);
-        if fits(s, h, workers, i) { 0 } else { 6 }
+        if fits(s.views(i), s, h, workers, i) {
+            0
+        } else {
+            6
+        }
     } else {
         q
     }

@@ -14,8 +14,9 @@ use lib.Seq.{drop-cons, take-all, take-nil}
 use Rattle.words.specs.Choice.{pick, both, every}
 use Rattle.words.proofs.Choice.{both-left, both-right}
 use Rattle.text.specs.Parts.{comma}
-use Rattle.text.specs.Commands.{isDigit, isNumber, valueFrom, numberOf, field, fieldCount, isLetter, hasThree, hasOne, command}
-use Rattle.text.specs.declared.Command.the-variants.{Sizes, Starts, Turns, Unread}
+use Rattle.text.specs.Commands.{isDigit, isNumber, valueFrom, numberOf, field, fieldCount, isLetter, hasThree, hasFour, hasOne, later, command}
+use Rattle.text.specs.declared.Command.{Command}
+use Rattle.text.specs.declared.Command.the-variants.{Sizes, Starts, Views, Turns, Unread}
 use Rattle.text.specs.Cut.{upTo, past, has}
 use Rattle.text.proofs.Parts.{past-drop, up-to-take, up-to-none, part-first, part-next, count-one, count-more}
 
@@ -172,6 +173,16 @@ pub four-steps :
 four-steps l a b d e₁ e₀ f₂ f₁ =
     rw (a, b, d, e₁, e₀, f₂, f₁) (sym (count-more comma l 2 ∙ ap (λ (t : Bool). both (has comma l) t) (count-more comma (past comma l) 1)))
 
+pub five-steps :
+    (l : List ℕ) {r h t : Bool} {p : List ℕ} → r ≡ both h t → t ≡ eqb (fieldCount p) 4 → h ≡ has comma l → p ≡ past comma l → r ≡ eqb (fieldCount l) 5
+five-steps l a b d e = rw (a, b, d, e) (sym (count-more comma l 3))
+
+pub four-numbers :
+    (x : ℕ) (l : List ℕ) {r s t u v w z n₁ n₂ n₃ n₄ : Bool} {q : List ℕ}
+    → r ≡ both s t → t ≡ both u v → v ≡ both n₁ w → w ≡ both n₂ z → z ≡ both n₃ n₄ → n₄ ≡ isNumber (field 4 l) → n₃ ≡ isNumber (field 3 l)
+    → n₂ ≡ isNumber (field 2 l) → n₁ ≡ isNumber (field 1 l) → u ≡ isLetter x q → q ≡ upTo comma l → s ≡ eqb (fieldCount l) 5 → r ≡ hasFour x l
+four-numbers x l a b d d′ d″ n₄ n₃ n₂ n₁ e f g = simp (a, b, d, d′, d″, n₄, n₃, n₂, n₁, e, f, g, field-0)
+
 pub three-steps :
     (x : ℕ) (l : List ℕ) {r s t u v w n₁ n₂ n₃ : Bool} {q : List ℕ}
     → r ≡ both s t → t ≡ both u v → v ≡ both n₁ w → w ≡ both n₂ n₃ → n₃ ≡ isNumber (field 3 l) → n₂ ≡ isNumber (field 2 l)
@@ -194,6 +205,18 @@ module _ (x : ℕ) (l : List ℕ) {t : Bool} where
   pub three-3 : t ≡ hasThree x l → t ≡ true → isNumber (field 3 l) ≡ true
   three-3 e h = both-right _ _ (both-right _ _ (both-right _ _ (both-right _ _ (sym e ∙ h))))
 
+  pub four-1 : t ≡ hasFour x l → t ≡ true → isNumber (field 1 l) ≡ true
+  four-1 e h = both-left _ _ (both-right _ _ (both-right _ _ (sym e ∙ h)))
+
+  pub four-2 : t ≡ hasFour x l → t ≡ true → isNumber (field 2 l) ≡ true
+  four-2 e h = both-left _ _ (both-right _ _ (both-right _ _ (both-right _ _ (sym e ∙ h))))
+
+  pub four-3 : t ≡ hasFour x l → t ≡ true → isNumber (field 3 l) ≡ true
+  four-3 e h = both-left _ _ (both-right _ _ (both-right _ _ (both-right _ _ (both-right _ _ (sym e ∙ h)))))
+
+  pub four-4 : t ≡ hasFour x l → t ≡ true → isNumber (field 4 l) ≡ true
+  four-4 e h = both-right _ _ (both-right _ _ (both-right _ _ (both-right _ _ (both-right _ _ (sym e ∙ h)))))
+
   pub one-1 : t ≡ hasOne x l → t ≡ true → isNumber (field 1 l) ≡ true
   one-1 e h = both-right _ _ (both-right _ _ (sym e ∙ h))
 
@@ -201,21 +224,37 @@ module _ (x : ℕ) (l : List ℕ) {t : Bool} where
 module _ (l : List ℕ) where
   pub command-sizes :
       {m n k : ℕ} → hasThree 115 l ≡ true → m ≡ numberOf (field 1 l) → n ≡ numberOf (field 2 l) → k ≡ numberOf (field 3 l)
-      → Sizes m n k ≡ command l
+      → Sizes m n k 0 ≡ command l
   unfolding command pick
   command-sizes h a b d = simp (h, a, b, d)
 
-  pub command-starts :
-      {m n k : ℕ} → hasThree 115 l ≡ false → hasThree 99 l ≡ true → m ≡ numberOf (field 1 l) → n ≡ numberOf (field 2 l) → k ≡ numberOf (field 3 l)
-      → Starts m n k ≡ command l
+  pub command-viewers :
+      {m n k v : ℕ} → hasThree 115 l ≡ false → hasFour 115 l ≡ true → m ≡ numberOf (field 1 l) → n ≡ numberOf (field 2 l) → k ≡ numberOf (field 3 l) → v ≡ numberOf (field 4 l)
+      → Sizes m n k v ≡ command l
   unfolding command pick
-  command-starts g h a b d = simp (g, h, a, b, d)
+  command-viewers g h a b d e = simp (g, h, a, b, d, e)
+
+  pub command-later : {c : Command} → c ≡ later l → hasThree 115 l ≡ false → hasFour 115 l ≡ false → c ≡ command l
+  unfolding command pick
+  command-later a g f = simp (g, f, a)
+
+  pub command-starts :
+      {m n k : ℕ} → hasThree 99 l ≡ true → m ≡ numberOf (field 1 l) → n ≡ numberOf (field 2 l) → k ≡ numberOf (field 3 l)
+      → Starts m n k ≡ later l
+  unfolding later pick
+  command-starts h a b d = simp (h, a, b, d)
+
+  pub command-views :
+      {m n k : ℕ} → hasThree 99 l ≡ false → hasThree 118 l ≡ true → m ≡ numberOf (field 1 l) → n ≡ numberOf (field 2 l) → k ≡ numberOf (field 3 l)
+      → Views m n k ≡ later l
+  unfolding later pick
+  command-views e h a b d = simp (e, h, a, b, d)
 
   pub command-turns :
-      {m : ℕ} → hasThree 115 l ≡ false → hasThree 99 l ≡ false → hasOne 116 l ≡ true → m ≡ numberOf (field 1 l) → Turns m ≡ command l
-  unfolding command pick
-  command-turns g g′ h a = simp (g, g′, h, a)
+      {m : ℕ} → hasThree 99 l ≡ false → hasThree 118 l ≡ false → hasOne 116 l ≡ true → m ≡ numberOf (field 1 l) → Turns m ≡ later l
+  unfolding later pick
+  command-turns e d h a = simp (e, d, h, a)
 
-  pub command-unread : hasThree 115 l ≡ false → hasThree 99 l ≡ false → hasOne 116 l ≡ false → Unread ≡ command l
-  unfolding command pick
-  command-unread g g′ h = simp (g, g′, h)
+  pub command-unread : hasThree 99 l ≡ false → hasThree 118 l ≡ false → hasOne 116 l ≡ false → Unread ≡ later l
+  unfolding later pick
+  command-unread e d h = simp (e, d, h)

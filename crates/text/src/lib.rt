@@ -6,14 +6,15 @@ ghost use Prim.Native.Nat.{_-_, _≤_};
 ghost use lib.Dec.{eqb};
 ghost use lib.ListN.{length, getD};
 ghost use Rattle.words.specs.Choice.{pick, every};
-ghost use Rattle.text.specs.Commands.{isDigit, isNumber, numberOf, field, fieldCount, isLetter, hasThree, hasOne, command};
+ghost use Rattle.text.specs.Commands.{isDigit, isNumber, numberOf, field, fieldCount, isLetter, hasThree, hasFour, hasOne, later, command};
 ghost use Rattle.text.specs.Cut.{upTo, past, has};
 use words::and;
 
 // What a line asks for. Unread: the line does not read.
 pub enum Command {
-    Sizes(u32, u32, u32),
+    Sizes(u32, u32, u32, u32),
     Starts(u32, u32, u32),
+    Views(u32, u32, u32),
     Turns(u32),
     Unread,
 }
@@ -159,6 +160,14 @@ fn four_fields(line: &[u8]) -> bool
     and(has(line, 44), and(has(r1, 44), two_fields(r2)))
 }
 
+// The line has four commas.
+fn five_fields(line: &[u8]) -> bool
+    ensures { λ r. ⌜ r ≡ eqb (fieldCount (now (line .entry))) 5 ⌝ }
+{
+    let r1 = past(line, 44);
+    and(has(line, 44), four_fields(r1))
+}
+
 // Field k of the line is a number.
 fn is_number_at(line: &[u8], k: u32) -> bool
     ensures { λ r. ⌜ r ≡ isNumber (field k (now (line .entry))) ⌝ }
@@ -182,6 +191,25 @@ fn three(line: &[u8], letter: u8) -> bool
     )
 }
 
+// The line has a letter and four numbers.
+fn four(line: &[u8], letter: u8) -> bool
+    ensures { λ r. ⌜ r ≡ hasFour letter (now (line .entry)) ⌝ }
+{
+    and(
+        five_fields(line),
+        and(
+            is_letter(up_to(line, 44), letter),
+            and(
+                is_number_at(line, 1),
+                and(
+                    is_number_at(line, 2),
+                    and(is_number_at(line, 3), is_number_at(line, 4)),
+                ),
+            ),
+        ),
+    )
+}
+
 // The line has a letter and one number.
 fn one(line: &[u8], letter: u8) -> bool
     ensures { λ r. ⌜ r ≡ hasOne letter (now (line .entry)) ⌝ }
@@ -200,17 +228,40 @@ fn number_at(line: &[u8], k: u32) -> u32
     number_of(field(line, k))
 }
 
+// What a line asks for that names no sizes.
+fn later(line: &[u8]) -> Command
+    ensures { λ r. ⌜ r ≡ later (now (line .entry)) ⌝ }
+{
+    if three(line, 99) {
+        Command::Starts(number_at(line, 1), number_at(line, 2), number_at(line, 3))
+    } else if three(line, 118) {
+        Command::Views(number_at(line, 1), number_at(line, 2), number_at(line, 3))
+    } else if one(line, 116) {
+        Command::Turns(number_at(line, 1))
+    } else {
+        Command::Unread
+    }
+}
+
 // What a line asks for.
 pub fn command_of(line: &[u8]) -> Command
     ensures { λ r. ⌜ r ≡ command (now (line .entry)) ⌝ }
 {
     if three(line, 115) {
-        Command::Sizes(number_at(line, 1), number_at(line, 2), number_at(line, 3))
-    } else if three(line, 99) {
-        Command::Starts(number_at(line, 1), number_at(line, 2), number_at(line, 3))
-    } else if one(line, 116) {
-        Command::Turns(number_at(line, 1))
+        Command::Sizes(
+            number_at(line, 1),
+            number_at(line, 2),
+            number_at(line, 3),
+            0,
+        )
+    } else if four(line, 115) {
+        Command::Sizes(
+            number_at(line, 1),
+            number_at(line, 2),
+            number_at(line, 3),
+            number_at(line, 4),
+        )
     } else {
-        Command::Unread
+        later(line)
     }
 }

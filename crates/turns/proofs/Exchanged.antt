@@ -26,9 +26,10 @@ use Rattle.record.specs.Fits.{hasNode, innerFits}
 use Rattle.rules.specs.Heads.{to, ended, holdingLevel, forget}
 use Rattle.rules.specs.Steps.{Step, expected, closed}
 use Rattle.rules.specs.Searching as searching
+use Rattle.rules.specs.Searching.{takesNode}
 use Rattle.rules.specs.Moving as moving
 use Rattle.rules.specs.Acts.{inner, outer, actBy, act}
-use Rattle.rules.specs.Asked.{inHand, standsWith, picksWith, puts, appends, closes, setCloses, readsBy, takesNode, question9}
+use Rattle.rules.specs.Asked.{inHand, standsWith, picksWith, puts, appends, closes, setCloses, readsBy, question9}
 use Rattle.rules.specs.Exchanges.{commits, exchangeBy, exchangeOf}
 use Rattle.rules.specs.FailedExchange.{Exchanger, put, append, close, set-put, set-append, set-close}
 use Rattle.rules.proofs.Exchanging.{exchange-done}
@@ -88,22 +89,22 @@ remembered : (s : Settings) (k c : ℕ) → 12 ≤ k → k ≤ 21 → innerFits 
 unfolding innerFits hasNode
 remembered s k c low high f = within-true c (s .limit) (sym (pick-true _ _ _ (both-true (le-leb 12 k low) (le-leb k 21 high))) ∙ f) .low
 
-module _ (w : ℕ) (s : Settings) (h : Head) (ms : List Move) (m : Memory) where
+module _ (w : ℕ) (looks : Bool) (s : Settings) (h : Head) (ms : List Move) (m : Memory) where
   -- what the turn leaves once the kind is k
   abbrev after : Kind → Record
-  after k = act w s (record′ (to k h) ms) m .record′
+  after k = act w looks s (record′ (to k h) ms) m .record′
 
   -- Put, Append
   node-came :
       {k again : Kind} {x : Cell} {own : Bool} → Exchanger w s h ms m k again x own → 1 ≤ h .«held_node» → (expected h (cellAt w m x) ≡ true → after k .head .«held_node» ≡ 0)
       → byHeld (after k .head .«held_node») ≡ pick (expected h (cellAt w m x)) Done Failed
-  node-came e low d = by-held-is _ _ _ low d (λ n. failed-exchange w s h ms m _ _ _ _ e n .node-held)
+  node-came e low d = by-held-is _ _ _ low d (λ n. failed-exchange w looks s h ms m _ _ _ _ e n .node-held)
 
   -- Close, SetClose
   level-came :
       {k again : Kind} {x : Cell} {own : Bool} → Exchanger w s h ms m k again x own → 1 ≤ h .«held_level» → (expected h (cellAt w m x) ≡ true → after k .head .«held_level» ≡ 0)
       → byHeld (after k .head .«held_level») ≡ pick (expected h (cellAt w m x)) Done Failed
-  level-came e low d = by-held-is _ _ _ low d (λ n. failed-exchange w s h ms m _ _ _ _ e n .level-held)
+  level-came e low d = by-held-is _ _ _ low d (λ n. failed-exchange w looks s h ms m _ _ _ _ e n .level-held)
 
   -- c is the number of nodes that the innermost Move remembers after a turn that leaves as many Moves
   abbrev Counted : ℕ → Record → Type 0
@@ -116,7 +117,7 @@ module _ (w : ℕ) (s : Settings) (h : Head) (ms : List Move) (m : Memory) where
       → byRemembered (inner ms .count) c ≡ pick (expected h (cellAt w m x)) Done Failed
   unfolding forget
   set-came c e low t d f =
-      by-remembered-is _ _ c low (λ y. t (forget (inner ms)) (d y)) (λ n. t (inner ms) (ap (λ (u : Step). u .record′ .moves) (failed-exchange w s h ms m _ _ _ _ e n .acts) ∙ f))
+      by-remembered-is _ _ c low (λ y. t (forget (inner ms)) (d y)) (λ n. t (inner ms) (ap (λ (u : Step). u .record′ .moves) (failed-exchange w looks s h ms m _ _ _ _ e n .acts) ∙ f))
 
   -- by kind
   came-by :
@@ -152,9 +153,9 @@ module _ (w : ℕ) (s : Settings) (h : Head) (ms : List Move) (m : Memory) where
   -- a turn that is not refused by 6; one that ends its call "full" makes no exchange
   pub tried-came :
       (c : ℕ) → (11 ≤ kindNo (h .kind) → innerFits s (kindNo (h .kind)) (inner ms .count) ≡ true)
-      → (11 ≤ kindNo (h .kind) → Counted c (triedOf w s (record′ h ms) m .step′ .record′)) → (triedOf w s (record′ h ms) m .number ≡ 6 → ⊥)
-      → cameTo (kindNo (h .kind)) (triedOf w s (record′ h ms) m .step′ .record′ .head) (inner ms .count) c
-      ≡ pick (eqb (triedOf w s (record′ h ms) m .number) 0) (exchangeOf w (record′ h ms) m) None
+      → (11 ≤ kindNo (h .kind) → Counted c (triedOf w looks s (record′ h ms) m .step′ .record′)) → (triedOf w looks s (record′ h ms) m .number ≡ 6 → ⊥)
+      → cameTo (kindNo (h .kind)) (triedOf w looks s (record′ h ms) m .step′ .record′ .head) (inner ms .count) c
+      ≡ pick (eqb (triedOf w looks s (record′ h ms) m .number) 0) (exchangeOf w (record′ h ms) m) None
   unfolding triedOf unlessSix unlessNine question9 to act
   tried-came c f =
       let Came : Tried → Type 0 =

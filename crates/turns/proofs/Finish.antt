@@ -75,34 +75,34 @@ six-memory : (q : Bool) (s : Settings) (h : Head) (ms : List Move) (m : Memory) 
 unfolding unlessSix
 six-memory q s h ms m t n = pick-both (λ (u : Tried). u .number ≡ 6 → u .step′ .memory ≡ m) q (λ e z. absurd (n z)) (λ e z. refl)
 
-pub tried-memory : (w : ℕ) (s : Settings) (r : Record) (m : Memory) → triedOf w s r m .number ≡ 6 → triedOf w s r m .step′ .memory ≡ m
+pub tried-memory : (w : ℕ) (v : Bool) (s : Settings) (r : Record) (m : Memory) → triedOf w v s r m .number ≡ 6 → triedOf w v s r m .step′ .memory ≡ m
 unfolding triedOf
-tried-memory w s r m = six-memory _ s (r .head) (r .moves) m _ (not-six _ s (r .head) m _)
+tried-memory w v s r m = six-memory _ s (r .head) (r .moves) m _ (not-six _ s (r .head) m _)
 
 module _ (w : ℕ) (i : ℕ) (s : Settings) (h : Head) (nodes levels workers : List ℕ) where
   -- a searching method gives what the definitions say
-  search-is : (t : Turned) (m : Memory) → turned t m ≡ searchTried (h .kind) w s h (memory nodes levels) → 1 ≤ kindNo (h .kind) → kindNo (h .kind) ≤ 10 → turned t m ≡ triedOf w s (record′ h []) (memory nodes levels)
+  pub search-is : (v : Bool) (t : Turned) (m : Memory) → turned t m ≡ searchTried (h .kind) w v s h (memory nodes levels) → 1 ≤ kindNo (h .kind) → kindNo (h .kind) ≤ 10 → turned t m ≡ triedOf w v s (record′ h []) (memory nodes levels)
   unfolding triedOf
-  search-is t m e low high = e ∙ search-tried w s h (memory nodes levels) low high
+  search-is v t m e low high = e ∙ search-tried w v s h (memory nodes levels) low high
 
   pub search-refused :
-      (t : Turned) {d : Done} {n g : List ℕ} → d ≡ turnDone 6 s None → turned t (memory n g) ≡ searchTried (h .kind) w s h (memory nodes levels) → t .number ≡ 6 → 1 ≤ kindNo (h .kind) → kindNo (h .kind) ≤ 10
-      → did d (areas n g workers) ≡ didOf (exchangeOf w (record′ h []) (memory nodes levels)) (finished (triedOf w s (record′ h []) (memory nodes levels)) i s (areas nodes levels workers))
-  search-refused t {d} {n} {g} a e z low high =
-      finish-six w i s nodes levels workers (triedOf w s (record′ h []) (memory nodes levels)) _ (turned t (memory n g) .step′) a (search-is t (memory n g) e low high) z (tried-memory w s (record′ h []) (memory nodes levels))
+      (v : Bool) (t : Turned) {d : Done} {n g : List ℕ} → d ≡ turnDone 6 s None → turned t (memory n g) ≡ searchTried (h .kind) w v s h (memory nodes levels) → t .number ≡ 6 → 1 ≤ kindNo (h .kind) → kindNo (h .kind) ≤ 10
+      → did d (areas n g workers) ≡ didOf (exchangeOf w (record′ h []) (memory nodes levels)) (finished (triedOf w v s (record′ h []) (memory nodes levels)) i s (areas nodes levels workers))
+  search-refused v t {d} {n} {g} a e z low high =
+      finish-six w i s nodes levels workers (triedOf w v s (record′ h []) (memory nodes levels)) _ (turned t (memory n g) .step′) a (search-is v t (memory n g) e low high) z (tried-memory w v s (record′ h []) (memory nodes levels))
 
   -- what its exchange came to: it has no Move
-  search-came : (t : Turned) {m : Memory} → turned t m ≡ triedOf w s (record′ h []) (memory nodes levels) → (t .number ≡ 6 → ⊥) → kindNo (h .kind) ≤ 10
-      → cameTo (kindNo (h .kind)) (t .worker .head) 0 0 ≡ pick (eqb (triedOf w s (record′ h []) (memory nodes levels) .number) 0) (exchangeOf w (record′ h []) (memory nodes levels)) None
+  search-came : (v : Bool) (t : Turned) {m : Memory} → turned t m ≡ triedOf w v s (record′ h []) (memory nodes levels) → (t .number ≡ 6 → ⊥) → kindNo (h .kind) ≤ 10
+      → cameTo (kindNo (h .kind)) (t .worker .head) 0 0 ≡ pick (eqb (triedOf w v s (record′ h []) (memory nodes levels) .number) 0) (exchangeOf w (record′ h []) (memory nodes levels)) None
   unfolding inner newMove
-  search-came t e z high =
-      let p : t .worker .head ≡ triedOf w s (record′ h []) (memory nodes levels) .step′ .record′ .head = ap (λ u. u .step′ .record′ .head) e in
-      let q : t .number ≡ triedOf w s (record′ h []) (memory nodes levels) .number = ap (λ u. u .number) e in
-      ap (λ (x : Head). cameTo (kindNo (h .kind)) x 0 0) p ∙ tried-came w s h [] (memory nodes levels) 0 (λ low. absurd (omega arith)) (λ low. absurd (omega arith)) (λ y. z (q ∙ y))
+  search-came v t e z high =
+      let p : t .worker .head ≡ triedOf w v s (record′ h []) (memory nodes levels) .step′ .record′ .head = ap (λ u. u .step′ .record′ .head) e in
+      let q : t .number ≡ triedOf w v s (record′ h []) (memory nodes levels) .number = ap (λ u. u .number) e in
+      ap (λ (x : Head). cameTo (kindNo (h .kind)) x 0 0) p ∙ tried-came w v s h [] (memory nodes levels) 0 (λ low. absurd (omega arith)) (λ low. absurd (omega arith)) (λ y. z (q ∙ y))
 
   pub search-done :
-      (t : Turned) {d : Done} {y : Exchange} {n g l : List ℕ} → d ≡ turnDone (t .number) (t .settings) y → y ≡ cameTo (kindNo (h .kind)) (t .worker .head) 0 0 → l ≡ store (record′ (t .worker .head) (begun (t .worker .head .level) (t .child) [])) i workers → turned t (memory n g) ≡ searchTried (h .kind) w s h (memory nodes levels) → (t .number ≡ 6 → ⊥) → 1 ≤ kindNo (h .kind) → kindNo (h .kind) ≤ 10
-      → did d (areas n g l) ≡ didOf (exchangeOf w (record′ h []) (memory nodes levels)) (finished (triedOf w s (record′ h []) (memory nodes levels)) i s (areas nodes levels workers))
-  search-done t {d} {y} {n} {g} {l} a b f e z low high =
-      let q : turned t (memory n g) ≡ triedOf w s (record′ h []) (memory nodes levels) = search-is t (memory n g) e low high in
-      finish-done w i s nodes levels workers (triedOf w s (record′ h []) (memory nodes levels)) _ (turned t (memory n g) .step′) a (b ∙ search-came t q z high) f q z
+      (v : Bool) (t : Turned) {d : Done} {y : Exchange} {n g l : List ℕ} → d ≡ turnDone (t .number) (t .settings) y → y ≡ cameTo (kindNo (h .kind)) (t .worker .head) 0 0 → l ≡ store (record′ (t .worker .head) (begun (t .worker .head .level) (t .child) [])) i workers → turned t (memory n g) ≡ searchTried (h .kind) w v s h (memory nodes levels) → (t .number ≡ 6 → ⊥) → 1 ≤ kindNo (h .kind) → kindNo (h .kind) ≤ 10
+      → did d (areas n g l) ≡ didOf (exchangeOf w (record′ h []) (memory nodes levels)) (finished (triedOf w v s (record′ h []) (memory nodes levels)) i s (areas nodes levels workers))
+  search-done v t {d} {y} {n} {g} {l} a b f e z low high =
+      let q : turned t (memory n g) ≡ triedOf w v s (record′ h []) (memory nodes levels) = search-is v t (memory n g) e low high in
+      finish-done w i s nodes levels workers (triedOf w v s (record′ h []) (memory nodes levels)) _ (turned t (memory n g) .step′) a (b ∙ search-came v t q z high) f q z

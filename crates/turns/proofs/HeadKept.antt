@@ -1,5 +1,6 @@
 -- What a moving turn does not change of a head: the pixel, the held node, the last answer and its node. So these words need not be stored.
 -- Relies on the definitions of the moving turns.
+use mathlib.Core.Bool.{false}
 use Prim.Native.Nat.{ℕ, _≤_}
 use mathlib.Core.Path.{refl}
 use mathlib.Core.List.{List, [], _∷_}
@@ -77,7 +78,7 @@ module _ (h : Head) where
     after-keeps g (o ∷ os) = level-keeps SetNext g
 
     -- by kind
-    pub kind-keeps : (k : Kind) (ms : List Move) → 11 ≤ kindNo k → kindNo k ≤ 22 → Kept (actBy k w s h ms m)
+    pub kind-keeps : (k : Kind) (ms : List Move) → 11 ≤ kindNo k → kindNo k ≤ 22 → Kept (actBy k w false s h ms m)
     unfolding actBy kindNo moving.chainHead moving.chainNext moving.setNext moving.setLook moving.setPut moving.setRead moving.setReadWord moving.setTail moving.setAppend moving.setLevel moving.setClose moving.setFollow moving.setFollowWord moving.moveEnd
     kind-keeps Idle ms low high = absurd (omega arith)
     kind-keeps Look ms low high = absurd (omega arith)

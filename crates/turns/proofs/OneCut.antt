@@ -9,7 +9,7 @@ use lib.Dec.{eqb}
 use lib.ListN.{length}
 use borrow.Author.Tests.{eqb-true}
 use Rattle.words.specs.Choice.{pick, both, asks, firstNo}
-use Rattle.settings.specs.Sizes.{question1, question3}
+use Rattle.settings.specs.Sizes.{question1, question3, views}
 use Rattle.settings.specs.Cut.{firstThree}
 use Rattle.settings.specs.declared.Settings.{Settings}
 use Rattle.areas.specs.Memory.{Areas, Memory}
@@ -24,7 +24,7 @@ use Rattle.rules.specs.Asked.{readsBy, question4, question6, question7, questio
 use Rattle.rules.specs.Operations.{refused, unlessRefused, question2Of, recordOf, memoryOf, taken, full, fullRecord, turn, turnQuestions}
 use Rattle.steps.specs.Tried.{unlessSix, unlessNine}
 use Rattle.table.specs.Cut.{firstFour}
-use Rattle.turns.specs.Cut.{triedOf, finished, turnHere}
+use Rattle.turns.specs.Cut.{triedOf, finished, turnAs, turnHere}
 
 idle-kind : (k : Kind) → kindNo k ≡ 0 → k ≡ Idle
 unfolding kindNo
@@ -48,9 +48,9 @@ cut : (q₁ q₂ q₃ q₄ fit idle reads left : Bool) (w : ℕ) (s : Settings) 
     let f = pick (eqb t 0) (pick q₄ 0 4) t in
     let n = firstNo (asks 1 q₁ ∷ asks 2 q₂ ∷ asks 3 q₃ ∷ asks 4 q₄ ∷ asks 6 (both fit reads) ∷ asks 8 (not idle) ∷ asks 9 left ∷ []) in
     let r = recordOf a i in
-    let u = unlessSix reads s (r .head) (r .moves) (memoryOf a) (unlessNine left s (r .head) (memoryOf a) (act w s r (memoryOf a))) in
+    let u = unlessSix reads s (r .head) (r .moves) (memoryOf a) (unlessNine left s (r .head) (memoryOf a) (act w (views s i) s r (memoryOf a))) in
     pick (eqb f 0) (pick fit (pick idle (refused 8 s a) (finished u i s a)) (refused 6 s a)) (refused f s a)
-    ≡ pick (eqb n 9) (full s i a) (unlessRefused n s a (taken (act w s r (memoryOf a)) i (a .workers)))
+    ≡ pick (eqb n 9) (full s i a) (unlessRefused n s a (taken (act w (views s i) s r (memoryOf a)) i (a .workers)))
 unfolding firstNo pick both unlessSix unlessNine finished unlessRefused taken full fullRecord
 cut false q₂ q₃ q₄ fit idle reads left w s i a h = refl
 cut true false q₃ q₄ fit idle reads left w s i a h = refl
@@ -67,8 +67,8 @@ cut true true true true true false true false w s i a h = refl
 pub turn-cut : (w : ℕ) (s : Settings) (i : ℕ) (a : Areas)
     → pick (eqb (firstFour w s i (length (a .nodes)) (length (a .levels)) (length (a .workers))) 0) (turnHere w s i a) (refused (firstFour w s i (length (a .nodes)) (length (a .levels)) (length (a .workers))) s a)
     ≡ turn w s i a
-unfolding turn turnQuestions turnHere triedOf act firstFour firstThree question6 question8
+unfolding turn turnQuestions turnAs triedOf act firstFour firstThree question6 question8
 turn-cut w s i a =
-    cut (question1 s) (question2Of w s a) (question3 w s) (question4 s i) (fits w s (recordOf a i)) (question7 (recordOf a i))
+    cut (question1 s) (question2Of w s a) (question3 w s) (question4 s i) (fits w (views s i) s (recordOf a i)) (question7 (recordOf a i))
     (readsBy (recordOf a i .head .kind) w s (recordOf a i .head) (recordOf a i .moves) (memoryOf a)) (question9 s (recordOf a i)) w s i a
     (idle-reads w s (recordOf a i) (memoryOf a))

@@ -1,5 +1,7 @@
 -- The parts in which the code carries out one turn. They follow the code's cut and are tied to the operation's definition by lemmas.
 -- Relies on rules for the operations, on steps for what a method gives.
+use Rattle.settings.specs.Sizes.{views}
+use mathlib.Core.Bool.{Bool}
 use Prim.Native.Nat.{ℕ}
 use lib.Dec.{eqb, ltb}
 use Rattle.words.specs.Choice.{pick}
@@ -17,11 +19,11 @@ use Rattle.rules.specs.Operations.{Result, result, reply, refused, recordOf, me
 use Rattle.steps.specs.Tried.{Tried, unlessSix, unlessNine}
 use Rattle.turns.specs.declared.Done as done
 
--- what the method for the kind of a record gives
-unfoldable pub triedOf : ℕ → Settings → Record → Memory → Tried
-triedOf w s r m =
+-- what the method for the kind of a record gives, of a viewer (v) or of another worker
+unfoldable pub triedOf : ℕ → Bool → Settings → Record → Memory → Tried
+triedOf w v s r m =
     unlessSix (readsBy (r .head .kind) w s (r .head) (r .moves) m) s (r .head) (r .moves) m
-    (unlessNine (question9 s r) s (r .head) m (actBy (r .head .kind) w s (r .head) (r .moves) m))
+    (unlessNine (question9 s r) s (r .head) m (actBy (r .head .kind) w v s (r .head) (r .moves) m))
 
 -- what a turn leaves of it: a refusal by 6 nothing, else the record is stored
 unfoldable pub finished : Tried → ℕ → Settings → Areas → Result
@@ -31,12 +33,15 @@ finished t i s a =
     (result (reply (t .number) (t .step′ .answer) 0 (t .step′ .settings))
     (areas (t .step′ .memory .nodes) (t .step′ .memory .levels) (store (t .step′ .record′) i (a .workers))))
 
--- a turn of a worker below workers: that the record fits, question 8, then what the kind's method gives
-unfoldable pub turnHere : ℕ → Settings → ℕ → Areas → Result
-turnHere w s i a =
-    pick (fits w s (recordOf a i))
-    (pick (question7 (recordOf a i)) (refused 8 s a) (finished (triedOf w s (recordOf a i) (memoryOf a)) i s a))
+-- a turn of a worker below workers, a viewer (v) or another: that the record fits, question 8, then what the kind's method gives
+unfoldable pub turnAs : ℕ → Bool → Settings → ℕ → Areas → Result
+turnAs w v s i a =
+    pick (fits w v s (recordOf a i))
+    (pick (question7 (recordOf a i)) (refused 8 s a) (finished (triedOf w v s (recordOf a i) (memoryOf a)) i s a))
     (refused 6 s a)
+
+abbrev pub turnHere : ℕ → Settings → ℕ → Areas → Result
+turnHere w s i a = turnAs w (views s i) s i a
 
 -- what is handed on of a turn, with the areas
 unfoldable pub turnDone : ℕ → Settings → Exchange → done.Done
@@ -53,8 +58,11 @@ did d a = record { done = d; areas = a }
 unfoldable pub didOf : Exchange → Result → Did
 didOf e x = did (turnDone (x .reply .number) (x .reply .settings) (pick (eqb (x .reply .number) 0) e None)) (x .areas)
 
+abbrev pub didAs : ℕ → Bool → Settings → ℕ → Areas → Did
+didAs w v s i a = didOf (exchangeOf w (recordOf a i) (memoryOf a)) (turnAs w v s i a)
+
 abbrev pub didHere : ℕ → Settings → ℕ → Areas → Did
-didHere w s i a = didOf (exchangeOf w (recordOf a i) (memoryOf a)) (turnHere w s i a)
+didHere w s i a = didAs w (views s i) s i a
 
 -- what an exchange came to, as the code tells it: what was put into the cell is no longer in hand, or no longer remembered
 unfoldable pub byHeld : ℕ → Exchange

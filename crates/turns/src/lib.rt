@@ -1,7 +1,7 @@
 // A turn of a worker with a call open, once questions 1 to 4 are answered yes: the record is loaded, its kind's method is called, what it leaves is stored.
 // Relies on worker and mover for the turns, on record for the worker's words.
 ghost use mathlib.Core.Path.{_≡_};
-ghost use mathlib.Core.Bool.{true};
+ghost use mathlib.Core.Bool.{true, false};
 ghost use mathlib.Core.List.{[]};
 ghost use Prim.Native.Nat.{_+_, _*_, _≤_};
 ghost use lib.ListN.{length};
@@ -10,10 +10,10 @@ ghost use Rattle.settings.specs.Cut.{Sized};
 ghost use Rattle.areas.specs.Memory.{areas, memory};
 ghost use Rattle.record.specs.Kinds.{kindNo};
 ghost use Rattle.record.specs.Layout.{record′, load, headAt, store};
-ghost use Rattle.record.specs.Fits.{fits};
+ghost use Rattle.record.specs.Fits.{viewing, fits};
 ghost use Rattle.rules.specs.Exchanges.{exchangeOf};
 ghost use Rattle.steps.specs.Cut.{begun};
-ghost use Rattle.turns.specs.Cut.{triedOf, finished, turnDone, byHeld, byRemembered, cameTo, did, didOf, didHere};
+ghost use Rattle.turns.specs.Cut.{triedOf, finished, turnDone, byHeld, byRemembered, cameTo, did, didOf, didAs};
 use mover::Mover;
 use record::Exchange;
 use record::Head;
@@ -23,6 +23,7 @@ use record::inside;
 use record::kind_no;
 use record::move_fits;
 use record::search_fits;
+use record::viewing;
 use settings::Settings;
 use worker::Turned;
 use worker::Worker;
@@ -116,7 +117,7 @@ fn search_turn(
     requires { ⌜ Sized s ⌝ }
     requires { ⌜ 1 ≤ kindNo (h .kind) ⌝ }
     requires { ⌜ kindNo (h .kind) ≤ 10 ⌝ }
-    ensures { λ d. ⌜ did d (areas (now (nodes .exit)) (now (levels .exit)) (now (workers .exit))) ≡ didOf (exchangeOf (s .width) (record′ h []) (memory (now (nodes .entry)) (now (levels .entry)))) (finished (triedOf (s .width) s (record′ h []) (memory (now (nodes .entry)) (now (levels .entry)))) i s (areas (now (nodes .entry)) (now (levels .entry)) (now (workers .entry)))) ⌝ }
+    ensures { λ d. ⌜ did d (areas (now (nodes .exit)) (now (levels .exit)) (now (workers .exit))) ≡ didOf (exchangeOf (s .width) (record′ h []) (memory (now (nodes .entry)) (now (levels .entry)))) (finished (triedOf (s .width) false s (record′ h []) (memory (now (nodes .entry)) (now (levels .entry)))) i s (areas (now (nodes .entry)) (now (levels .entry)) (now (workers .entry)))) ⌝ }
 {
     let w = Worker { head: h };
     let t = w.turn(s, nodes, levels);
@@ -144,9 +145,9 @@ fn move_turn(
     requires { ⌜ Sized s ⌝ }
     requires { ⌜ workerWords * i + workerWords ≤ length (now workers) ⌝ }
     requires { ⌜ h ≡ headAt (now workers) i ⌝ }
-    requires { ⌜ fits (s .width) s (load (now workers) i) ≡ true ⌝ }
+    requires { ⌜ fits (s .width) false s (load (now workers) i) ≡ true ⌝ }
     requires { ⌜ 11 ≤ kindNo (h .kind) ⌝ }
-    ensures { λ d. ⌜ did d (areas (now (nodes .exit)) (now (levels .exit)) (now (workers .exit))) ≡ didOf (exchangeOf (s .width) (load (now (workers .entry)) i) (memory (now (nodes .entry)) (now (levels .entry)))) (finished (triedOf (s .width) s (load (now (workers .entry)) i) (memory (now (nodes .entry)) (now (levels .entry)))) i s (areas (now (nodes .entry)) (now (levels .entry)) (now (workers .entry)))) ⌝ }
+    ensures { λ d. ⌜ did d (areas (now (nodes .exit)) (now (levels .exit)) (now (workers .exit))) ≡ didOf (exchangeOf (s .width) (load (now (workers .entry)) i) (memory (now (nodes .entry)) (now (levels .entry)))) (finished (triedOf (s .width) false s (load (now (workers .entry)) i) (memory (now (nodes .entry)) (now (levels .entry)))) i s (areas (now (nodes .entry)) (now (levels .entry)) (now (workers .entry)))) ⌝ }
 {
     let v = Mover::load(workers, i, h);
     let t = v.turn(s, nodes, levels);
@@ -177,7 +178,7 @@ fn search_here(
     requires { ⌜ h ≡ headAt (now workers) i ⌝ }
     requires { ⌜ 1 ≤ kindNo (h .kind) ⌝ }
     requires { ⌜ kindNo (h .kind) ≤ 10 ⌝ }
-    ensures { λ d. ⌜ did d (areas (now (nodes .exit)) (now (levels .exit)) (now (workers .exit))) ≡ didHere (s .width) s i (areas (now (nodes .entry)) (now (levels .entry)) (now (workers .entry))) ⌝ }
+    ensures { λ d. ⌜ did d (areas (now (nodes .exit)) (now (levels .exit)) (now (workers .exit))) ≡ didAs (s .width) false s i (areas (now (nodes .entry)) (now (levels .entry)) (now (workers .entry))) ⌝ }
 {
     if search_fits(s, h, workers, i) {
         search_turn(s, i, h, nodes, levels, workers)
@@ -199,7 +200,7 @@ fn move_here(
     requires { ⌜ workerWords * i + workerWords ≤ length (now workers) ⌝ }
     requires { ⌜ h ≡ headAt (now workers) i ⌝ }
     requires { ⌜ 11 ≤ kindNo (h .kind) ⌝ }
-    ensures { λ d. ⌜ did d (areas (now (nodes .exit)) (now (levels .exit)) (now (workers .exit))) ≡ didHere (s .width) s i (areas (now (nodes .entry)) (now (levels .entry)) (now (workers .entry))) ⌝ }
+    ensures { λ d. ⌜ did d (areas (now (nodes .exit)) (now (levels .exit)) (now (workers .exit))) ≡ didAs (s .width) false s i (areas (now (nodes .entry)) (now (levels .entry)) (now (workers .entry))) ⌝ }
 {
     if move_fits(s, h, workers, i) {
         move_turn(s, i, h, nodes, levels, workers)
@@ -208,7 +209,7 @@ fn move_here(
     }
 }
 
-// A turn of a worker with a call open, once questions 1 to 4 are answered yes. The head decides what is loaded further. The place of the record is
+// A turn of a worker that places, with a call open, once questions 1 to 4 are answered yes. The head decides what is loaded further. The place of the record is
 // tested once, here.
 pub fn open_here(
     s: Settings,
@@ -220,7 +221,7 @@ pub fn open_here(
     requires { ⌜ Sized s ⌝ }
     requires { ⌜ workerWords * i + workerWords ≤ length (now workers) ⌝ }
     requires { ⌜ 1 ≤ kindNo (headAt (now workers) i .kind) ⌝ }
-    ensures { λ d. ⌜ did d (areas (now (nodes .exit)) (now (levels .exit)) (now (workers .exit))) ≡ didHere (s .width) s i (areas (now (nodes .entry)) (now (levels .entry)) (now (workers .entry))) ⌝ }
+    ensures { λ d. ⌜ did d (areas (now (nodes .exit)) (now (levels .exit)) (now (workers .exit))) ≡ didAs (s .width) false s i (areas (now (nodes .entry)) (now (levels .entry)) (now (workers .entry))) ⌝ }
 {
     if inside(workers, i) {
         let h = Head::load(workers, i);
@@ -232,6 +233,7 @@ pub fn open_here(
             nodes: s.nodes,
             nodes_taken: s.nodes_taken,
             levels_taken: s.levels_taken,
+            viewers: s.viewers,
             width: s.width,
         };
         if kind_no(k) <= 10 {
@@ -239,6 +241,71 @@ pub fn open_here(
         } else {
             move_here(n, i, h, nodes, levels, workers)
         }
+    } else {
+        refused_six(s)
+    }
+}
+
+// A turn of a viewer whose record fits.
+fn view_turn(
+    s: Settings,
+    i: u32,
+    h: Head,
+    nodes: &[u32],
+    levels: &[u32],
+    workers: &mut [u32],
+) -> Done
+    requires { ⌜ Sized s ⌝ }
+    requires { ⌜ viewing (kindNo (h .kind)) ≡ true ⌝ }
+    ensures { λ d. ⌜ did d (areas (now (nodes .entry)) (now (levels .entry)) (now (workers .exit))) ≡ didOf (exchangeOf (s .width) (record′ h []) (memory (now (nodes .entry)) (now (levels .entry)))) (finished (triedOf (s .width) true s (record′ h []) (memory (now (nodes .entry)) (now (levels .entry)))) i s (areas (now (nodes .entry)) (now (levels .entry)) (now (workers .entry)))) ⌝ }
+    ensures { λ d. ⌜ (d .«nodes_taken» ≡ s .«nodes_taken») × (d .«levels_taken» ≡ s .«levels_taken») ⌝ }
+{
+    let w = Worker { head: h };
+    let t = w.view(s, nodes, levels);
+    let n = t.number;
+    if n == 6 {
+        refused_six(s)
+    } else {
+        let w2 = t.worker;
+        let h2 = w2.head;
+        h2.store(0, workers, i);
+        turn_done(n, s, Exchange::None)
+    }
+}
+
+// A turn of a viewer at one of a viewer's kinds: that the record fits, then the turn.
+fn view_fitting(
+    s: Settings,
+    i: u32,
+    h: Head,
+    nodes: &[u32],
+    levels: &[u32],
+    workers: &mut [u32],
+) -> Done
+    requires { ⌜ Sized s ⌝ }
+    requires { ⌜ h ≡ headAt (now workers) i ⌝ }
+    requires { ⌜ viewing (kindNo (h .kind)) ≡ true ⌝ }
+    ensures { λ d. ⌜ did d (areas (now (nodes .entry)) (now (levels .entry)) (now (workers .exit))) ≡ didAs (s .width) true s i (areas (now (nodes .entry)) (now (levels .entry)) (now (workers .entry))) ⌝ }
+    ensures { λ d. ⌜ (d .«nodes_taken» ≡ s .«nodes_taken») × (d .«levels_taken» ≡ s .«levels_taken») ⌝ }
+{
+    if search_fits(s, h, workers, i) {
+        view_turn(s, i, h, nodes, levels, workers)
+    } else {
+        refused_six(s)
+    }
+}
+
+// A turn of a viewer with a call open, once questions 1 to 4 are answered yes.
+pub fn view_here(s: Settings, i: u32, nodes: &[u32], levels: &[u32], workers: &mut [u32]) -> Done
+    requires { ⌜ Sized s ⌝ }
+    requires { ⌜ 1 ≤ kindNo (headAt (now workers) i .kind) ⌝ }
+    ensures { λ d. ⌜ did d (areas (now (nodes .entry)) (now (levels .entry)) (now (workers .exit))) ≡ didAs (s .width) true s i (areas (now (nodes .entry)) (now (levels .entry)) (now (workers .entry))) ⌝ }
+    ensures { λ d. ⌜ (d .«nodes_taken» ≡ s .«nodes_taken») × (d .«levels_taken» ≡ s .«levels_taken») ⌝ }
+{
+    let h = Head::load(workers, i);
+    let k = h.kind;
+    if viewing(kind_no(k)) {
+        view_fitting(s, i, h, nodes, levels, workers)
     } else {
         refused_six(s)
     }

@@ -1,11 +1,11 @@
 -- The turns of a search that read or exchange a cell, in the code: the one word that they meet is asked and acted on.
 -- Relies on steps for a turn that exchanges a cell.
-use mathlib.Core.Path.{_≡_, refl, _∙_}
+use mathlib.Core.Path.{_≡_, refl, sym, _∙_}
 use mathlib.Core.Bool.{Bool, true, false}
 use mathlib.Core.List.{List, []}
 use Prim.Native.Nat.{ℕ, _-_, _≤_}
 use Rattle.words.specs.Choice.{pick, both}
-use Rattle.words.proofs.Choice.{via}
+use Rattle.words.proofs.Choice.{via, pick-true, pick-false}
 use Rattle.settings.specs.declared.Settings.{Settings}
 use Rattle.areas.specs.declared.Cell.{Cell}
 use Rattle.areas.specs.declared.Cell.the-variants.{Next}
@@ -16,14 +16,16 @@ use Rattle.record.specs.declared.Answer.the-variants.{Nothing, New, Open}
 use Rattle.record.specs.declared.Head.{Head}
 use Rattle.rules.specs.Heads.{holdingLevel, ended}
 use Rattle.rules.specs.Steps.{going, peeked, byCount, beginsMove, closed}
-use Rattle.rules.specs.Searching.{entryOf, endsNew, placed, readWord, followWord, look, put, read, tail, append, close, follow}
+use Rattle.rules.specs.Searching.{viewed, entryOf, endsNew, placed, readWord, followWord, look, put, read, tail, append, close, follow}
 use Rattle.rules.specs.Asked.{picksIn, comparesRef, followsRef, standsAt, standsWith, readsRef, tails, picksWith, looks, puts, reads, appends, closes, follows}
 use Rattle.steps.specs.Cut.{begun}
 use Rattle.steps.specs.Tried.{Tried, tried, unlessSix, exchangeTried}
 use Rattle.steps.proofs.Ties.{begun-one}
 use Rattle.steps.proofs.Exchanges.{exchange-tried}
 use Rattle.worker.specs.declared.Turned.{Turned}
-use Rattle.worker.specs.Tried.{turned, turnedOf}
+use Rattle.worker.specs.Tried.{turned, turnedOf, viewedOf}
+use Rattle.worker.specs.Searching.{viewEntry, viewNext}
+use Rattle.worker.proofs.Turns.{viewed-tried}
 
 -- done: the call ends "new", or a Move begins
 pub new-ends : (s : Settings) (h : Head) (m : Memory) {t : Turned} → t ≡ turnedOf 0 (New (h .«held_node» - 1)) s (ended 1 (h .«held_node» - 1) 0 h) 0 → turned t m ≡ tried 0 (endsNew s h m)
@@ -57,16 +59,16 @@ pub look-tried :
     (w : ℕ) (s : Settings) (h : Head) (nodes levels : List ℕ) {word : ℕ} {x : Cell} {t : Turned} {before : Bool}
     → t ≡ pick (both before (refTaken s word)) (turnedOf 0 Open s (peeked h word Take Read) 0) (turnedOf 6 Nothing s h 0)
     → word ≡ cellAt w (memory nodes levels) x → x ≡ entryOf w h levels → before ≡ picksIn w s (h .level) levels
-    → turned t (memory nodes levels) ≡ unlessSix (looks w s h (memory nodes levels)) s h [] (memory nodes levels) (tried 0 (look w s h (memory nodes levels)))
-unfolding looks look readsRef
+    → turned t (memory nodes levels) ≡ unlessSix (looks w s h (memory nodes levels)) s h [] (memory nodes levels) (tried 0 (look w false s h (memory nodes levels)))
+unfolding looks look readsRef viewed both pick
 look-tried w s h nodes levels {word} {x} {t} {before} p q k e = peeks s h (memory nodes levels) (both before (refTaken s word)) _ p ∙ simp (q, k, e)
 
 pub tail-tried :
     (w : ℕ) (s : Settings) (h : Head) (nodes levels : List ℕ) {word : ℕ} {n : Kind} {t : Turned} {before : Bool}
     → t ≡ pick (both before (refTaken s word)) (turnedOf 0 Open s (peeked h word n Follow) 0) (turnedOf 6 Nothing s h 0)
     → word ≡ nextAt nodes (h .node) → n ≡ byCount s (h .count) TakeTail Level Follow → before ≡ standsAt s h
-    → turned t (memory nodes levels) ≡ unlessSix (tails s h nodes) s h [] (memory nodes levels) (tried 0 (tail w s h (memory nodes levels)))
-unfolding tails tail
+    → turned t (memory nodes levels) ≡ unlessSix (tails s h nodes) s h [] (memory nodes levels) (tried 0 (tail w false s h (memory nodes levels)))
+unfolding tails tail viewed both pick
 tail-tried w s h nodes levels {word} {n} {t} {before} p q k e = peeks s h (memory nodes levels) (both before (refTaken s word)) _ p ∙ simp (q, k, e)
 
 -- Read and Follow: a word is read, and made the same of
@@ -85,6 +87,58 @@ pub follow-tried :
     → u ≡ unlessSix (follows w s h (memory nodes levels)) s h [] (memory nodes levels) (tried 0 (follow w s h (memory nodes levels)))
 unfolding follows follow
 follow-tried w s h nodes levels p q e = simp (p, q, e)
+
+-- the same of a viewer, in the functions that have two kinds each
+module _ (s : Settings) (h : Head) (word : ℕ) (before : Bool) (here other : Kind) {t : Turned} {q a : Bool} where
+  pub view-yes : {z : Head} → t ≡ viewedOf s z → z ≡ peeked h word here other → q ≡ both before a → a ≡ refTaken s word → q ≡ true → t ≡ pick (both before (refTaken s word)) (viewedOf s (peeked h word here other)) (turnedOf 6 Nothing s h 0)
+  unfolding pick
+  view-yes p z q a e = simp (← a, ← q, e, p, z)
+
+  pub view-no : t ≡ turnedOf 6 Nothing s h 0 → q ≡ both before a → a ≡ refTaken s word → q ≡ false → t ≡ pick (both before (refTaken s word)) (viewedOf s (peeked h word here other)) (turnedOf 6 Nothing s h 0)
+  unfolding pick
+  view-no p q a e = simp (← a, ← q, e, p)
+
+views : (s : Settings) (h : Head) (m : Memory) (q : Bool) (z : Head) {t : Turned} → t ≡ pick q (viewedOf s z) (turnedOf 6 Nothing s h 0) → turned t m ≡ unlessSix q s h [] m (tried 0 (viewed true s z m))
+unfolding unlessSix begun pick
+views s h m true z p = rw p (viewed-tried s z m)
+views s h m false z p = simp p
+
+module _ (w : ℕ) (v : Bool) (s : Settings) (h : Head) (nodes levels : List ℕ) {word : ℕ} {before : Bool} where
+  pub views-look :
+      {x : Cell} {t : Turned}
+      → t ≡ pick (both before (refTaken s word)) (viewedOf s (peeked h word Take Read)) (turnedOf 6 Nothing s h 0)
+      → word ≡ cellAt w (memory nodes levels) x → x ≡ entryOf w h levels → before ≡ picksIn w s (h .level) levels → v ≡ true
+      → turned t (memory nodes levels) ≡ viewEntry w v s h (memory nodes levels)
+  unfolding viewEntry looks look readsRef
+  views-look {x} {t} p q k e y =
+      let z : turned t (memory nodes levels) ≡ unlessSix (looks w s h (memory nodes levels)) s h [] (memory nodes levels) (tried 0 (look w true s h (memory nodes levels))) = views s h (memory nodes levels) (both before (refTaken s word)) _ p ∙ simp (q, k, e) in
+      z ∙ sym (pick-true _ _ _ y)
+
+  pub views-read :
+      {x : Cell} {u : Tried}
+      → u ≡ unlessSix (both before (comparesRef s word nodes)) s h [] (memory nodes levels) (tried 0 (readWord s h word (memory nodes levels)))
+      → word ≡ cellAt w (memory nodes levels) x → x ≡ entryOf w h levels → before ≡ picksIn w s (h .level) levels → v ≡ false
+      → u ≡ viewEntry w v s h (memory nodes levels)
+  unfolding viewEntry
+  views-read p q k e y = read-tried w s h nodes levels p q k e ∙ sym (pick-false _ _ _ y)
+
+  pub views-tail :
+      {n : Kind} {t : Turned}
+      → t ≡ pick (both before (refTaken s word)) (viewedOf s (peeked h word n Follow)) (turnedOf 6 Nothing s h 0)
+      → word ≡ nextAt nodes (h .node) → n ≡ byCount s (h .count) TakeTail Level Follow → before ≡ standsAt s h → v ≡ true
+      → turned t (memory nodes levels) ≡ viewNext w v s h (memory nodes levels)
+  unfolding viewNext tails tail
+  views-tail {n} {t} p q k e y =
+      let z : turned t (memory nodes levels) ≡ unlessSix (tails s h nodes) s h [] (memory nodes levels) (tried 0 (tail w true s h (memory nodes levels))) = views s h (memory nodes levels) (both before (refTaken s word)) _ p ∙ simp (q, k, e) in
+      z ∙ sym (pick-true _ _ _ y)
+
+  pub views-follow :
+      {u : Tried}
+      → u ≡ unlessSix (both before (followsRef w s h word (memory nodes levels))) s h [] (memory nodes levels) (tried 0 (followWord w s h word (memory nodes levels)))
+      → word ≡ nextAt nodes (h .node) → before ≡ standsAt s h → v ≡ false
+      → u ≡ viewNext w v s h (memory nodes levels)
+  unfolding viewNext
+  views-follow p q e y = follow-tried w s h nodes levels p q e ∙ sym (pick-false _ _ _ y)
 
 -- the three kinds
 pub put-tried :

@@ -1,6 +1,7 @@
 // A worker: its record's head by value, with a method for each kind of turn of a search that hands back the advanced worker.
 // Relies on steps for what searching and moving do alike, on areas for cells, on record for the head, on rules for the definitions.
 ghost use mathlib.Core.Path.{_≡_};
+ghost use mathlib.Core.Bool.{true, false};
 ghost use mathlib.Core.List.{[]};
 ghost use Prim.Native.Nat.{_≤_, _-_};
 ghost use Rattle.rules.specs.Heads.{holdingLevel, ended};
@@ -10,11 +11,13 @@ ghost use Rattle.settings.specs.Sizes.{maxLimit, maxNodes, mostDepth, mostLevel
 ghost use Rattle.settings.specs.Cut.{Sized};
 ghost use Rattle.areas.specs.Memory.{memory, depthAt, refTaken};
 ghost use Rattle.rules.specs.Steps.{peeked, withNode, takeNode, takeLevel, beginsMove};
-ghost use Rattle.rules.specs.Searching.{entryOf, endsNew, metNode, met, readWord, followWord, look, take, put, read, tail, takeTail, append, level, close, follow};
+ghost use Rattle.rules.specs.Searching.{entryOf, endsNew, metNode, met, readWord, followWord, look, take, put, read, tail, takeTail, append, level, close, follow, wants};
 ghost use Rattle.rules.specs.Asked.{comparesRef, followsRef, nodeLeft, takes, tails, takesLevel, looks, picksWith, puts, reads, appends, closes, follows};
 ghost use Rattle.steps.specs.Tried.{tried, unlessSix, unlessNine, exchangeTried};
-ghost use Rattle.worker.specs.Tried.{turned, turnedOf};
-ghost use Rattle.worker.specs.Searching.{searchTried};
+ghost use Rattle.worker.specs.Tried.{turned, turnedOf, viewedOf};
+ghost use Rattle.worker.specs.Searching.{searchTried, viewEntry, viewNext};
+ghost use Rattle.record.specs.Kinds.{kindNo};
+ghost use Rattle.record.specs.Fits.{viewing};
 use areas::Cell;
 use areas::cell_at;
 use areas::entry_cell;
@@ -31,6 +34,7 @@ use areas::refers_to;
 use record::Answer;
 use record::Head;
 use record::Kind;
+use record::kind_no;
 use settings::Settings;
 use steps::by_count;
 use steps::compares_ref;
@@ -86,6 +90,30 @@ fn going(s: Settings, h: Head) -> Turned
     ensures { λ r. ⌜ r ≡ turnedOf 0 Answer.Open s h 0 ⌝ }
 {
     answered(0, Answer::Open, s, h, 0)
+}
+
+// Take, TakeTail or Level comes next.
+fn wants(k: Kind) -> bool
+    ensures { λ r. ⌜ r ≡ wants k ⌝ }
+{
+    let n = kind_no(k);
+    if n == 2 {
+        true
+    } else {
+        if n == 6 { true } else { eq(n, 8) }
+    }
+}
+
+// A viewer's call goes on with the head h, or ends "absent" where a node or a level would be taken.
+fn viewed(s: Settings, h: Head) -> Turned
+    ensures { λ r. ⌜ r ≡ viewedOf s h ⌝ }
+{
+    let k = h.kind;
+    if wants(k) {
+        answered(0, Answer::Absent, s, ended(5, 0, h.held_node, h), 0)
+    } else {
+        going(s, h)
+    }
 }
 
 fn refused_six(s: Settings, h: Head) -> Turned
@@ -183,12 +211,23 @@ fn read_word(s: Settings, h: Head, word: u32, nodes: &[u32], levels: &[u32]) -> 
     met(s, h, 1, named(word), word, nodes, levels)
 }
 
-// The word that Look or Tail read: question 6, `before` being what it asks besides the word, then the next kind.
+// The word that Look or Tail of a worker that places read: question 6, `before` being what it asks besides the word, then the next kind.
 fn peek_met(before: bool, s: Settings, h: Head, word: u32, here: Kind, other: Kind) -> Turned
     ensures { λ r. ⌜ r ≡ pick (both before (refTaken s word)) (turnedOf 0 Answer.Open s (peeked h word here other) 0) (turnedOf 6 Answer.Nothing s h 0) ⌝ }
 {
     if and(before, ref_taken(s, word)) {
         going(s, peeked(h, word, here, other))
+    } else {
+        refused_six(s, h)
+    }
+}
+
+// The word that a viewer's Look or Tail read: the same question, then the next kind or "absent".
+fn view_met(before: bool, s: Settings, h: Head, word: u32, here: Kind, other: Kind) -> Turned
+    ensures { λ r. ⌜ r ≡ pick (both before (refTaken s word)) (viewedOf s (peeked h word here other)) (turnedOf 6 Answer.Nothing s h 0) ⌝ }
+{
+    if and(before, ref_taken(s, word)) {
+        viewed(s, peeked(h, word, here, other))
     } else {
         refused_six(s, h)
     }
@@ -320,7 +359,7 @@ impl Worker {
     // Look: read K's entry.
     pub fn look(self, s: Settings, nodes: &[u32], levels: &[u32]) -> Turned
         requires { ⌜ DigitWidth (s .width) ⌝ }
-        ensures { λ r. ⌜ turned r (memory (now (nodes .entry)) (now (levels .entry))) ≡ unlessSix (looks (s .width) s (self .head) (memory (now (nodes .entry)) (now (levels .entry)))) s (self .head) [] (memory (now (nodes .entry)) (now (levels .entry))) (tried 0 (look (s .width) s (self .head) (memory (now (nodes .entry)) (now (levels .entry))))) ⌝ }
+        ensures { λ r. ⌜ turned r (memory (now (nodes .entry)) (now (levels .entry))) ≡ unlessSix (looks (s .width) s (self .head) (memory (now (nodes .entry)) (now (levels .entry)))) s (self .head) [] (memory (now (nodes .entry)) (now (levels .entry))) (tried 0 (look (s .width) false s (self .head) (memory (now (nodes .entry)) (now (levels .entry))))) ⌝ }
     {
         let h = self.head;
         let word = cell_at(s.width, entry_of(s.width, h, levels), nodes, levels);
@@ -365,7 +404,7 @@ impl Worker {
 
     // Tail: read R's next.
     pub fn tail(self, s: Settings, nodes: &[u32], levels: &[u32]) -> Turned
-        ensures { λ r. ⌜ turned r (memory (now (nodes .entry)) (now (levels .entry))) ≡ unlessSix (tails s (self .head) (now (nodes .entry))) s (self .head) [] (memory (now (nodes .entry)) (now (levels .entry))) (tried 0 (tail (s .width) s (self .head) (memory (now (nodes .entry)) (now (levels .entry))))) ⌝ }
+        ensures { λ r. ⌜ turned r (memory (now (nodes .entry)) (now (levels .entry))) ≡ unlessSix (tails s (self .head) (now (nodes .entry))) s (self .head) [] (memory (now (nodes .entry)) (now (levels .entry))) (tried 0 (tail (s .width) false s (self .head) (memory (now (nodes .entry)) (now (levels .entry))))) ⌝ }
     {
         let h = self.head;
         let k = by_count(s, h.count, Kind::TakeTail, Kind::Level, Kind::Follow);
@@ -434,10 +473,59 @@ impl Worker {
         follow_met(stands_at(s, h), s, h, word, nodes, levels)
     }
 
-    // One turn of a search, by its kind. Another kind is none of a search.
+    // A viewer's Look, or else its Read: K's entry is read. The compiler has the turns of the other workers inside the loop of a list; a viewer's are apart, so that
+    // tables without viewers do not pay for them.
+    fn view_entry(self, looks: bool, s: Settings, nodes: &[u32], levels: &[u32]) -> Turned
+        requires { ⌜ DigitWidth (s .width) ⌝ }
+        ensures { λ r. ⌜ turned r (memory (now (nodes .entry)) (now (levels .entry))) ≡ viewEntry (s .width) looks s (self .head) (memory (now (nodes .entry)) (now (levels .entry))) ⌝ }
+    {
+        let h = self.head;
+        let word = cell_at(s.width, entry_of(s.width, h, levels), nodes, levels);
+        let before = picks_in(s, h.level, levels);
+        if looks {
+            view_met(before, s, h, word, Kind::Take, Kind::Read)
+        } else {
+            read_met(before, s, h, word, nodes, levels)
+        }
+    }
+
+    // A viewer's Tail, or else its Follow: R's next is read.
+    fn view_next(self, looks: bool, s: Settings, nodes: &[u32], levels: &[u32]) -> Turned
+        requires { ⌜ DigitWidth (s .width) ⌝ }
+        requires { ⌜ s .limit ≤ maxLimit ⌝ }
+        ensures { λ r. ⌜ turned r (memory (now (nodes .entry)) (now (levels .entry))) ≡ viewNext (s .width) looks s (self .head) (memory (now (nodes .entry)) (now (levels .entry))) ⌝ }
+    {
+        let h = self.head;
+        let word = next_at(nodes, h.node);
+        if looks {
+            let k = by_count(s, h.count, Kind::TakeTail, Kind::Level, Kind::Follow);
+            view_met(stands_at(s, h), s, h, word, k, Kind::Follow)
+        } else {
+            follow_met(stands_at(s, h), s, h, word, nodes, levels)
+        }
+    }
+
+    // One turn of a viewer, by its kind. Another kind is none of a viewer's.
+    pub fn view(self, s: Settings, nodes: &[u32], levels: &[u32]) -> Turned
+        requires { ⌜ Sized s ⌝ }
+        requires { ⌜ viewing (kindNo (self .head .kind)) ≡ true ⌝ }
+        ensures { λ r. ⌜ turned r (memory (now (nodes .entry)) (now (levels .entry))) ≡ searchTried (self .head .kind) (s .width) true s (self .head) (memory (now (nodes .entry)) (now (levels .entry))) ⌝ }
+    {
+        let h = self.head;
+        let k = h.kind;
+        match k {
+            Kind::Look => self.view_entry(true, s, nodes, levels),
+            Kind::Read => self.view_entry(false, s, nodes, levels),
+            Kind::Tail => self.view_next(true, s, nodes, levels),
+            Kind::Follow => self.view_next(false, s, nodes, levels),
+            _ => refused_six(s, h),
+        }
+    }
+
+    // One turn of a search of a worker that places, by its kind. Another kind is none of a search.
     pub fn turn(self, s: Settings, nodes: &mut [u32], levels: &mut [u32]) -> Turned
         requires { ⌜ Sized s ⌝ }
-        ensures { λ r. ⌜ turned r (memory (now (nodes .exit)) (now (levels .exit))) ≡ searchTried (self .head .kind) (s .width) s (self .head) (memory (now (nodes .entry)) (now (levels .entry))) ⌝ }
+        ensures { λ r. ⌜ turned r (memory (now (nodes .exit)) (now (levels .exit))) ≡ searchTried (self .head .kind) (s .width) false s (self .head) (memory (now (nodes .entry)) (now (levels .entry))) ⌝ }
     {
         let h = self.head;
         let k = h.kind;

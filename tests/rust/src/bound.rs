@@ -42,10 +42,13 @@ pub struct BoundSeen {
     doomed: [u64; 17],
     // operations after which as many exchanges had failed as can, and one had
     reached: u64,
+    // operations beside viewers after which one had failed; operations where all are viewers
+    with_viewers: u64,
+    nobody_places: u64,
     // turns whose exchange was told from the words before them
     foretold: u64,
-    // calls that were run to their end alone: not doomed, doomed
-    alone: [u64; 2],
+    // calls that were run to their end alone: not doomed, doomed, of viewers
+    alone: [u64; 3],
 }
 
 impl BoundSeen {
@@ -53,19 +56,23 @@ impl BoundSeen {
         self.doomed.iter_mut().zip(more.doomed).for_each(|(x, y)| *x += y);
         self.alone.iter_mut().zip(more.alone).for_each(|(x, y)| *x += y);
         self.reached += more.reached;
+        self.with_viewers += more.with_viewers;
+        self.nobody_places += more.nobody_places;
         self.foretold += more.foretold;
     }
 
-    // failed + doomed workers ≤ (workers − 1) × done; with one worker nothing fails
+    // failed + doomed workers ≤ (placing workers − 1) × done; with one nothing fails, "with no placing worker both are zero"; a viewer is never doomed
     pub fn bound(&mut self, areas: &Areas, s: Settings, made: Exchanges) -> Result<(), String> {
-        let most = (s.workers - 1) * made.done;
+        let most = s.placing().saturating_sub(1) * made.done;
         let doomed = (0..s.workers).filter(|&i| doomed(&view(areas, s, i))).count();
         self.doomed[doomed] += 1;
         self.reached += (made.failed == most && most > 0) as u64;
-        if made.failed + doomed as u32 <= most {
+        self.with_viewers += (s.viewers > 0 && made.failed > 0) as u64;
+        self.nobody_places += (s.placing() == 0) as u64;
+        if made.failed + doomed as u32 <= most && (s.placing() > 0 || made.done == 0) {
             return Ok(());
         }
-        Err(format!("{made:?} with {doomed} workers doomed: more than {} workers may have", s.workers))
+        Err(format!("{made:?} with {doomed} workers doomed: more than {} placing workers may have", s.placing()))
     }
 
     // the turn of worker i, which was carried out, made the exchange that the words before it tell
@@ -83,12 +90,15 @@ impl BoundSeen {
         let amid: Vec<String> = (1..17).filter(|&n| self.doomed[n] > 0).map(|n| format!("{n} doomed {}", self.doomed[n])).collect();
         println!("bound held after {} operations, of these {}; reached {} times", self.doomed.iter().sum::<u64>(), amid.join(", "), self.reached);
         println!(
-            "exchanges as the words before them tell: {}; calls run alone: {} not doomed, {} doomed",
-            self.foretold, self.alone[0], self.alone[1]
+            "exchanges as the words before them tell: {}; calls run alone: {} not doomed, {} doomed, {} of viewers",
+            self.foretold, self.alone[0], self.alone[1], self.alone[2]
         );
+        println!("failures beside viewers: after {} operations; all workers viewers: {} operations", self.with_viewers, self.nobody_places);
         let seen = [("a doomed worker", self.doomed[1]), ("15 doomed workers", self.doomed[15]), ("the bound reached", self.reached)];
         let alone = [("an exchange told", self.foretold), ("a call alone, not doomed", self.alone[0]), ("a call alone, doomed", self.alone[1])];
-        seen.iter().chain(&alone).filter(|x| x.1 == 0).map(|x| x.0.to_string()).collect()
+        let viewers =
+            [("a viewer's call alone", self.alone[2]), ("a failure beside viewers", self.with_viewers), ("viewers alone", self.nobody_places)];
+        seen.iter().chain(&alone).chain(&viewers).filter(|x| x.1 == 0).map(|x| x.0.to_string()).collect()
     }
 }
 
@@ -108,7 +118,7 @@ pub fn alone(p: &mut Pair) -> Compared<()> {
                 return Err(copy.difference(format!("worker {i} alone: {failed} exchanges failed, {may_fail} may")));
             }
         }
-        p.bound.alone[may_fail as usize] += 1;
+        p.bound.alone[if s.views(i) { 2 } else { may_fail as usize }] += 1;
     }
     Ok(())
 }

@@ -2,7 +2,7 @@
 use crate::bound::{BoundSeen, EXCHANGES};
 use crate::model::{last_depth, Areas, Kind, Kind::*, Seen, Settings, KINDS, LISTS, WIDTHS};
 use crate::mutants::Chosen;
-use crate::pair::{Numbers, Pair, OPERATIONS};
+use crate::pair::{Numbers, Pair, NUMBER_COUNT, OPERATIONS};
 
 // The place of a width among WIDTHS; what is no width has the last one.
 pub const PLACES: usize = WIDTHS.len() + 1;
@@ -27,7 +27,8 @@ struct Reached {
 }
 
 // the numbers that each operation can give, in the order of OPERATIONS
-const NUMBERS: [&[usize]; 5] = [&[0, 1, 2], &[0, 1, 2, 3, 4, 5, 6, 7], &[0, 1, 2, 3, 4, 6, 8, 9], &[0, 1, 2, 3, 4, 6], &[0, 1, 2, 3, 4, 6]];
+const NUMBERS: [&[usize]; 6] =
+    [&[0, 1, 2], &[0, 1, 2, 3, 4, 5, 17, 6, 7], &[0, 1, 2, 3, 4, 5, 17, 6, 7], &[0, 1, 2, 3, 4, 6, 8, 9], &[0, 1, 2, 3, 4, 6], &[0, 1, 2, 3, 4, 6]];
 
 // the kinds that follow each kind of turn, in the order of KINDS; Idle is the call's end. Turns whose exchange failed are apart, below.
 const FOLLOWS: [&[Kind]; 23] = [
@@ -65,6 +66,16 @@ fn follows_failed(kind: Kind) -> &'static [Kind] {
     }
 }
 
+// the same of a viewer's turns: "absent" is an end too
+fn follows_viewed(kind: Kind) -> &'static [Kind] {
+    match kind {
+        Look => &[Read, Idle],
+        Read | Follow => &[Idle, Tail, Look],
+        Tail => &[Follow, Idle],
+        _ => &[],
+    }
+}
+
 fn kinds(times: &[u64; 23]) -> String {
     let to: Vec<String> = (0..23).filter(|&n| times[n] > 0).map(|n| format!("{:?} {}", KINDS[n], times[n])).collect();
     to.join(", ")
@@ -82,6 +93,7 @@ impl Total {
         p.mutant = self.mutant;
         if let Some(m) = self.mutant {
             p.model.sizes = m.sizes();
+            p.model.roles = m.roles();
         }
         p
     }
@@ -121,6 +133,7 @@ impl Reached {
         let (mut bad, last, s) = (vec![], last_depth(width) as usize, &self.seen);
         self.report_kinds(&mut bad);
         self.report_failed(&mut bad);
+        self.report_viewed(&mut bad);
         println!("records that do not fit: {}; Moves open, 1 to {last}: {:?}", s.sixes[23], &s.nested[1..=last]);
         bad.extend((1..=last).filter(|&k| s.nested[k] == 0).map(|k| format!("{k} Moves")));
         bad.extend((last + 1..s.nested.len()).filter(|&k| s.nested[k] > 0).map(|k| format!("{k} Moves, {} times", s.nested[k])));
@@ -158,6 +171,25 @@ impl Reached {
         }
     }
 
+    fn report_viewed(&self, bad: &mut Vec<String>) {
+        let s = &self.seen;
+        for k in 1..23 {
+            let (name, follows) = (format!("a viewer's {:?}", KINDS[k]), follows_viewed(KINDS[k]));
+            if !follows.is_empty() {
+                println!("{name}, then {}; 6 {} times", kinds(&s.viewed[k]), s.viewed_sixes[k]);
+            }
+            bad.extend(otherwise(&name, &s.viewed[k], follows));
+            if follows.is_empty() != (s.viewed_sixes[k] == 0) {
+                bad.push(format!("6 of {name}, {} times", s.viewed_sixes[k]));
+            }
+        }
+        println!("absent, before {}; viewers' records that do not fit: {}", kinds(&s.absent), s.viewed_sixes[23]);
+        bad.extend(otherwise("absent", &s.absent, &[Take, TakeTail, Level]));
+        if s.viewed_sixes[23] == 0 {
+            bad.push("a viewer's record that does not fit".to_string());
+        }
+    }
+
     // that each kind was done and has failed is asked of what follows it, above
     fn report_exchanges(&self) {
         let times = |of: &[[u64; 23]; 23], k: Kind| of[k as usize].iter().sum::<u64>();
@@ -181,9 +213,9 @@ impl Reached {
     fn report_numbers(&self, bad: &mut Vec<String>, may_give: &[&[usize]; OPERATIONS.len()]) {
         for (op, name) in OPERATIONS.iter().enumerate() {
             let given = &self.numbers[op];
-            let text: Vec<String> = (0..10).filter(|&n| given[n] > 0).map(|n| format!("{n} {} times", given[n])).collect();
+            let text: Vec<String> = (0..NUMBER_COUNT).filter(|&n| given[n] > 0).map(|n| format!("{n} {} times", given[n])).collect();
             println!("{name} gave {}", text.join(", "));
-            for n in 0..10 {
+            for n in 0..NUMBER_COUNT {
                 if may_give[op].contains(&n) != (given[n] > 0) {
                     bad.push(format!("number {n} of {name}, {} times", given[n]));
                 }

@@ -4,7 +4,7 @@ use crate::coverage::Total;
 use crate::model::{self, Exchanges, FOUND, NEW};
 use crate::pair::{Compared, Op, Pair};
 use crate::random::Random;
-use crate::sequences::{clustered, opened, pixel, settings, start, whole};
+use crate::sequences::{call, clustered, opened, pixel, settings, some_viewers, start, whole};
 use crate::words::{Place, LEVEL, RECORD};
 
 pub fn all(width: u32, seed: u64, total: &mut Total) -> Compared<()> {
@@ -143,7 +143,7 @@ fn many(width: u32, total: &mut Total) -> Compared<()> {
     Ok(())
 }
 
-// One event of a sequence: a start of worker, row and column; a turn of a worker, whose entry a list passes over if it is idle.
+// One event of a sequence: a start of worker, row and column, of the sort that the worker has; a turn of a worker, whose entry a list passes over if it is idle.
 enum Event {
     Start(u32, u32, u32),
     Turn { worker: u32, idle: bool },
@@ -153,6 +153,7 @@ enum Event {
 pub fn cut(width: u32, seed: u64, total: &mut Total) -> Compared<()> {
     let r = &mut Random::new(seed);
     let s = settings(1 + r.below(16) as u32, r.pick(&[1, 1, 2, 3, 8]), 1 + r.below(48) as u32, width);
+    let s = some_viewers(r, s);
     let spread = r.pick(&[2, 3, 4, 6]);
     let mut single = opened(total, s, 0, 7, &format!("cut {seed} {width}, turn by turn"))?;
     let mut events = vec![];
@@ -162,7 +163,7 @@ pub fn cut(width: u32, seed: u64, total: &mut Total) -> Compared<()> {
         events.push(Event::Turn { worker, idle });
         if idle && r.below(4) > 0 {
             let (row, column) = clustered(r, spread);
-            single.run(Op::Start(worker, row, column))?;
+            single.run(call(&s, worker, (row, column)))?;
             events.push(Event::Start(worker, row, column));
         }
     }
@@ -182,7 +183,7 @@ fn in_lists(r: &mut Random, p: &mut Pair, events: &[Event], longest: u64) -> Com
     let (mut sum, mut at) = (Exchanges::default(), 0);
     while at < events.len() {
         if let Event::Start(i, row, column) = events[at] {
-            p.run(Op::Start(i, row, column))?;
+            p.run(call(&p.table.settings, i, (row, column)))?;
             at += 1;
             continue;
         }

@@ -1,10 +1,10 @@
 // Compares the table with a model coded apart, at each digit width and after every operation: reply, settings and every word of the areas; and what the text
 // program prints with a text program coded apart. What was never reached fails.
-//   leafdrum_tests [SEED [TURNS]]                            everything
-//   leafdrum_tests mutants [SEED]                            the wrong versions of the model alone
-//   leafdrum_tests orders|large|spoiled|six|cut SEED WIDTH   one random sequence again, as a difference names it
-//   leafdrum_tests program [SEED [TEXTS]]                    the text program alone
-//   leafdrum_tests text SEED                                 one random text again, as a difference names it
+//   leafdrum_tests [SEED [TURNS]]                                   everything
+//   leafdrum_tests mutants [SEED]                                   the wrong versions of the model alone
+//   leafdrum_tests orders|large|spoiled|six|cut|struck SEED WIDTH   one random sequence again, as a difference names it
+//   leafdrum_tests program [SEED [TEXTS]]                           the text program alone
+//   leafdrum_tests text SEED                                        one random text again, as a difference names it
 mod bound;
 mod coverage;
 mod examples;
@@ -24,6 +24,7 @@ mod text;
 mod text_coverage;
 mod text_mutants;
 mod texts;
+mod viewers;
 mod words;
 use coverage::Total;
 use model::WIDTHS;
@@ -43,6 +44,7 @@ fn everything(seed: u64, turns: u64) -> Compared<Vec<String>> {
         exchanges::all(width, &mut total)?;
         lists::all(width, seed, &mut total)?;
         refusals::all(width, seed, &mut total)?;
+        viewers::all(width, seed, &mut total)?;
         sequences::written(width, &mut total)?;
         sequences::reopened(width, seed, &mut total)?;
     }
@@ -82,6 +84,7 @@ fn main() {
         Some("orders") => one(sequences::orders, number(2, 3), number(1, SEED)),
         Some("large") => one(sequences::large, number(2, 3), number(1, SEED)),
         Some("cut") => one(lists::cut, number(2, 3), number(1, SEED)),
+        Some("struck") => one(viewers::struck, number(2, 3), number(1, SEED)),
         Some("six") => one(six::one_width, number(2, 3), number(1, SEED)),
         Some("program") => program::all(number(1, SEED), number(2, TEXTS)),
         Some("text") => program::one(number(1, SEED)),

@@ -1,4 +1,4 @@
-// A model of the table coded apart, from document 01, document 02's requests 05, 08 and 10 and docs/LAYOUT.md. Nodes and levels are words of any value; a
+// A model of the table coded apart, from document 01, document 02's requests 05, 06, 08 and 10 and docs/LAYOUT.md. Nodes and levels are words of any value; a
 // worker is a type of its own, read from its words before an operation and written back after it. Nothing here is taken from the Rattle code.
 
 use crate::pair::Op;
@@ -15,14 +15,26 @@ pub struct Settings {
     pub nodes: u32,
     pub nodes_taken: u32,
     pub levels_taken: u32,
+    // "how many of the last workers are viewers"
+    pub viewers: u32,
     // of a digit, in bits
     pub width: u32,
 }
 
 impl Settings {
+    // workers, chain limit and nodes
+    fn sizes_in_range(&self) -> bool {
+        (1..=16).contains(&self.workers) && (1..=LONGEST_CHAIN as u32).contains(&self.limit) && (1..=4096).contains(&self.nodes)
+    }
     // but for the width
     pub fn in_range(&self) -> bool {
-        (1..=16).contains(&self.workers) && (1..=LONGEST_CHAIN as u32).contains(&self.limit) && (1..=4096).contains(&self.nodes)
+        self.sizes_in_range() && (ROLES.accepted)(self)
+    }
+    pub fn placing(&self) -> u32 {
+        self.workers.saturating_sub(self.viewers)
+    }
+    pub fn views(&self, i: u32) -> bool {
+        i >= self.placing()
     }
 }
 
@@ -91,6 +103,38 @@ pub const DOCUMENT: Sizes = Sizes {
     room_for_moves: last_depth,
 };
 
+// What the model does with viewers; a wrong version is one of these changed.
+#[derive(Clone, Copy)]
+pub struct Roles {
+    // question 1
+    pub accepted: fn(&Settings) -> bool,
+    // worker i is a viewer
+    pub views: fn(&Settings, u32) -> bool,
+    // question 17, of a call that looks and of one that places: the worker may be a viewer, may be another one
+    pub may_start: fn(bool, bool) -> bool,
+    // the question that 17 is asked before
+    pub asked_before: u32,
+    // the kinds of a viewer's open call; the last answers of a viewer and of another worker
+    pub viewing: fn(Kind) -> bool,
+    pub told: fn(bool, u32) -> bool,
+    // the kinds that a viewer's call ends "absent" before
+    pub ends_before: fn(Kind) -> bool,
+}
+
+pub const ROLES: Roles = Roles {
+    // "0 up to all of them, and more is refusal 1"
+    accepted: |s| s.viewers <= s.workers,
+    views: Settings::views,
+    // "It refuses with 17, asked after question 5, a placing call on a viewer, a looking call on another worker"
+    may_start: |looks, viewer| looks == viewer,
+    asked_before: 6,
+    // "follows Look, Read, Tail and Follow"
+    viewing: |kind| matches!(kind, Kind::Look | Kind::Read | Kind::Tail | Kind::Follow),
+    told: |viewer, answer| if viewer { matches!(answer, NOTHING | FOUND | ABSENT) } else { answer <= FULL },
+    // "Where a worker would go to Take, TakeTail or Level, it ends "absent""
+    ends_before: |kind| matches!(kind, Kind::Take | Kind::TakeTail | Kind::Level),
+};
+
 #[derive(Clone, Copy, Debug, PartialEq, Eq)]
 pub struct Reply {
     pub number: u32,
@@ -121,6 +165,7 @@ pub const NEW: u32 = 1;
 pub const FOUND: u32 = 2;
 pub const FULL: u32 = 3;
 pub const OPEN: u32 = 4;
+pub const ABSENT: u32 = 5;
 
 #[derive(Clone, Copy, Debug, PartialEq, Eq)]
 pub struct Node {
@@ -250,20 +295,25 @@ enum Exchanged {
 // counts of Moves open: none, up to as many as any width has, and one more, which only a wrong version comes to
 pub const NESTED: usize = 13;
 
-// What was seen, for coverage: turns by their kind and the one after it, those whose exchange failed apart; Moves open; 6 by kind (23: the record
-// does not fit), and how many of these by the word that a failed exchange met.
+// What was seen, for coverage: turns by their kind and the one after it, those whose exchange failed and those of viewers apart; Moves open; 6 by kind (23:
+// the record does not fit), those of viewers apart, and how many of the others by the word that a failed exchange met; calls that ended "absent" by the kind
+// that they would have gone to.
 #[derive(Clone, Debug, Default)]
 pub struct Seen {
     pub went: [[u64; 23]; 23],
     pub failed: [[u64; 23]; 23],
+    pub viewed: [[u64; 23]; 23],
     pub nested: [u64; NESTED],
     pub sixes: [u64; 24],
+    pub viewed_sixes: [u64; 24],
     pub failed_sixes: [u64; 23],
+    pub absent: [u64; 23],
     pub lists: [ListsSeen; LISTS.len()],
 }
 
 // Lists of turns by what they met; a list can be of several sorts.
-pub const LISTS: [&str; 6] = ["refused", "ended by a 6", "ended by the limit", "ended at the list's end", "with idle entries", "with a full"];
+pub const LISTS: [&str; 7] =
+    ["refused", "ended by a 6", "ended by the limit", "ended at the list's end", "with idle entries", "with a full", "with an absent"];
 
 // how many, and in how many of them an exchange was done, and failed
 #[derive(Clone, Copy, Debug, Default)]
@@ -276,19 +326,21 @@ pub struct ListsSeen {
 impl Seen {
     // turns carried out, "full" included
     pub fn turns(&self) -> u64 {
-        self.went.iter().chain(&self.failed).flatten().sum()
+        self.went.iter().chain(&self.failed).chain(&self.viewed).flatten().sum()
     }
 
     pub fn add(&mut self, more: &Seen) {
         fn add(to: &mut [u64], from: &[u64]) {
             to.iter_mut().zip(from).for_each(|(x, y)| *x += y);
         }
-        for (x, y) in self.went.iter_mut().zip(&more.went).chain(self.failed.iter_mut().zip(&more.failed)) {
-            add(x, y);
+        for (to, from) in [(&mut self.went, &more.went), (&mut self.failed, &more.failed), (&mut self.viewed, &more.viewed)] {
+            to.iter_mut().zip(from).for_each(|(x, y)| add(x, y));
         }
         add(&mut self.nested, &more.nested);
         add(&mut self.sixes, &more.sixes);
+        add(&mut self.viewed_sixes, &more.viewed_sixes);
         add(&mut self.failed_sixes, &more.failed_sixes);
+        add(&mut self.absent, &more.absent);
         for (x, y) in self.lists.iter_mut().zip(&more.lists) {
             x.lists += y.lists;
             x.done += y.done;
@@ -302,6 +354,7 @@ pub struct Model {
     pub settings: Settings,
     pub areas: Areas,
     pub sizes: Sizes,
+    pub roles: Roles,
     pub seen: Seen,
     // of all turns since the newest opening
     pub exchanges: Exchanges,
@@ -323,7 +376,8 @@ fn yes(b: bool) -> Asked<()> {
 
 impl Model {
     pub fn new(settings: Settings, areas: Areas) -> Model {
-        Model { settings, areas, sizes: DOCUMENT, seen: Seen::default(), exchanges: Exchanges::default(), exchanged: None, withheld: false }
+        let (seen, exchanges) = (Seen::default(), Exchanges::default());
+        Model { settings, areas, sizes: DOCUMENT, roles: ROLES, seen, exchanges, exchanged: None, withheld: false }
     }
 
     // the word that the newest turn's exchange met, if it failed
@@ -346,6 +400,7 @@ impl Model {
         match op {
             Op::Open => self.open(),
             Op::Start(i, row, column) => self.start(*i, *row, *column),
+            Op::View(i, row, column) => self.view(*i, *row, *column),
             Op::Turn(i) => self.turn(*i),
             Op::Turns(list, limit) => self.turns(list, *limit),
             Op::Last(i) => self.last(*i),
@@ -355,7 +410,7 @@ impl Model {
     // questions 1 and 2; nothing is reckoned with a width, or divided by a limit, that question 1 has not passed
     fn room(&self) -> Asked<()> {
         let s = &self.settings;
-        if !s.in_range() || !(self.sizes.accepted)(s.width) {
+        if !s.sizes_in_range() || !(self.roles.accepted)(s) || !(self.sizes.accepted)(s.width) {
             return Err(1);
         }
         let short = (self.areas.nodes.len() as u64) < 2 * s.nodes as u64
@@ -422,6 +477,9 @@ impl Model {
         let words = self.sizes.worker_words;
         words * i as usize..words * (i as usize + 1)
     }
+    fn views(&self, i: u32) -> bool {
+        (self.roles.views)(&self.settings, i)
+    }
     // the record of worker i, if it fits its layout
     fn worker(&self, i: u32) -> Asked<Worker> {
         let w = &self.areas.workers[self.record(i)];
@@ -441,9 +499,10 @@ impl Model {
             moves: vec![],
         };
         if kind == Kind::Idle {
-            yes(r.answer <= 3)?;
+            yes((self.roles.told)(self.views(i), r.answer))?;
             return Ok(r);
         }
+        yes(!self.views(i) || (self.roles.viewing)(kind))?;
         yes(r.pixel <= MAX_PIXEL)?;
         if matches!(w[0], 5..=10 | 17..=21) {
             yes(r.count >= 1 && r.count <= limit + 1)?;
@@ -480,18 +539,40 @@ impl Model {
     }
 
     pub fn start(&mut self, i: u32, row: u32, column: u32) -> Reply {
+        self.begin(false, i, row, column)
+    }
+    pub fn view(&mut self, i: u32, row: u32, column: u32) -> Reply {
+        self.begin(true, i, row, column)
+    }
+
+    // question 17, if this is its place
+    fn seventeen(&self, next: u32, looks: bool, i: u32) -> Asked<()> {
+        if next == self.roles.asked_before && !(self.roles.may_start)(looks, self.views(i)) {
+            Err(17)
+        } else {
+            Ok(())
+        }
+    }
+
+    // a placing call, or one that looks
+    fn begin(&mut self, looks: bool, i: u32, row: u32, column: u32) -> Reply {
         let asked = (|| {
             self.counts()?;
+            self.seventeen(4, looks, i)?;
             if i >= self.settings.workers {
                 return Err(4);
             }
+            self.seventeen(5, looks, i)?;
             if row > 4095 || column > 4095 {
                 return Err(5);
             }
+            self.seventeen(6, looks, i)?;
             let r = self.worker(i)?;
+            self.seventeen(7, looks, i)?;
             if r.kind != Kind::Idle {
                 return Err(7);
             }
+            self.seventeen(8, looks, i)?;
             Ok(r)
         })();
         match asked {
@@ -548,7 +629,7 @@ impl Model {
         (self.exchanged, self.withheld) = (None, false);
         let r = match self.worker(i) {
             Err(n) => {
-                self.seen.sixes[23] += 1;
+                self.sixes(i)[23] += 1;
                 return self.refuse(n);
             }
             Ok(r) => r,
@@ -568,12 +649,19 @@ impl Model {
                 self.reply(9, FULL, 0)
             }
             Err(n) => {
-                self.seen.sixes[kind as usize] += 1;
+                self.sixes(i)[kind as usize] += 1;
                 self.seen.failed_sixes[kind as usize] += self.met().is_some() as u64;
                 self.refuse(n)
             }
+            Ok((r, ..)) if self.views(i) && (self.roles.ends_before)(r.kind) => self.absent(i, kind, r),
             Ok((r, answer, node)) => {
-                let seen = if self.met().is_some() { &mut self.seen.failed } else { &mut self.seen.went };
+                let seen = if self.views(i) {
+                    &mut self.seen.viewed
+                } else if self.met().is_some() {
+                    &mut self.seen.failed
+                } else {
+                    &mut self.seen.went
+                };
                 seen[kind as usize][r.kind as usize] += 1;
                 self.seen.nested[r.moves.len()] += 1;
                 self.exchanges += self.made();
@@ -581,6 +669,23 @@ impl Model {
                 self.reply(0, answer, node)
             }
         }
+    }
+
+    fn sixes(&mut self, i: u32) -> &mut [u64; 24] {
+        if self.views(i) {
+            &mut self.seen.viewed_sixes
+        } else {
+            &mut self.seen.sixes
+        }
+    }
+
+    // the viewer's call ends in the turn that would have gone to another kind
+    fn absent(&mut self, i: u32, kind: Kind, mut r: Worker) -> Reply {
+        self.seen.absent[r.kind as usize] += 1;
+        self.seen.viewed[kind as usize][Kind::Idle as usize] += 1;
+        (r.kind, r.answer, r.answer_node) = (Kind::Idle, ABSENT, 0);
+        self.keep(i, &r);
+        self.reply(0, ABSENT, 0)
     }
 
     pub fn turns(&mut self, list: &[u8], limit: u32) -> Reply {
@@ -604,11 +709,13 @@ impl Model {
         let (mut number, mut turns, mut exchanges, mut left) = (0, 0, Exchanges::default(), list.iter());
         while turns < limit && number == 0 {
             let Some(&i) = left.next() else { break };
-            match self.one(i as u32).number {
+            let reply = self.one(i as u32);
+            match reply.number {
                 8 => met[4] = true,
                 6 => number = 6,
                 9 => (turns, met[5]) = (turns + 1, true),
                 _ => {
+                    met[6] |= reply.answer == ABSENT;
                     turns += 1;
                     exchanges += self.made();
                 }

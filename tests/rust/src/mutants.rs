@@ -1,21 +1,22 @@
-// Wrong versions of the model: each alters what the model leaves after one operation, or what the digit width fixes, and the comparison must find it at every
-// width at which it is wrong. So a table that were wrong in the same way would be found. There is at least one for each kind of turn, and several for each kind
-// of exchange that fails and for each number that the width gives; document 01's shortcuts and wrong firmwares are among them. Others are run alone as
-// machines, of which the bound of failed exchanges must not hold.
+// Wrong versions of the model: each alters what the model leaves after one operation, or what the digit width fixes, or what is done with viewers, and the
+// comparison must find it at every width at which it is wrong. So a table that were wrong in the same way would be found. There is at least one for each kind of
+// turn, and several for each kind of exchange that fails, for each number that the width gives and for each sentence on viewers; document 01's shortcuts and
+// wrong firmwares are among them. Others are run alone as machines, of which the bound of failed exchanges must not hold.
 use crate::bound::{self, EXCHANGES};
 use crate::coverage::Total;
 use crate::examples;
 use crate::exchanges;
 use crate::lists;
 use crate::model::{
-    digit, last_depth, level_words, levels, Areas, Exchanges, Kind, Kind::*, Model, Reply, Settings, Sizes, DOCUMENT, FOUND, FULL, KINDS, NEW,
-    NOTHING, OPEN, WIDTHS,
+    digit, last_depth, level_words, levels, Areas, Exchanges, Kind, Kind::*, Model, Reply, Roles, Settings, Sizes, ABSENT, DOCUMENT, FOUND, FULL,
+    KINDS, NEW, NOTHING, OPEN, ROLES, WIDTHS,
 };
 use crate::pair::{Compared, Op};
 use crate::random::Random;
 use crate::refusals;
 use crate::sequences;
 use crate::six;
+use crate::viewers;
 use crate::words::*;
 
 pub struct Mutant {
@@ -51,8 +52,12 @@ enum Of {
     RefusedLists,
     // operations that were refused by 1 for their width, the other settings being in range
     NoWidth,
-    // nothing after an operation, but what the width fixes
+    // nothing after an operation, but what the width fixes, and what is done with viewers
     Sizes(Sizes),
+    Roles(Roles),
+    // turns of viewers of these kinds, one by one, that were carried out; the same on memory spoiled at question 6
+    Viewers(&'static [Kind]),
+    SpoiledViewers(&'static [Kind]),
 }
 
 // the exchanges of a search, which compare the pixel of a node met; those in a Move, which do not
@@ -81,13 +86,14 @@ impl Chosen {
             Of::Lists | Of::Counts(_) | Of::SpoiledCounts(_) => matches!((op, number), (Op::Turns(..), 0 | 6)),
             Of::RefusedLists => matches!((op, number), (Op::Turns(..), 1..=4)),
             Of::NoWidth => number == 1 && given.in_range(),
-            Of::Sizes(_) => false,
+            Of::Viewers(_) | Of::SpoiledViewers(_) => matches!(op, Op::Turn(i) if given.views(*i)) && number == 0,
+            Of::Sizes(_) | Of::Roles(_) => false,
         };
         if !altered {
             return;
         }
         let worker = match op {
-            Op::Start(i, ..) | Op::Turn(i) | Op::Last(i) => *i,
+            Op::Start(i, ..) | Op::View(i, ..) | Op::Turn(i) | Op::Last(i) => *i,
             Op::Open | Op::Turns(..) => 0,
         };
         let mut x = Wrong { before, given, model, reply, worker, kind: self.kind };
@@ -106,11 +112,20 @@ impl Chosen {
         }
     }
 
+    // and with viewers
+    pub fn roles(&self) -> Roles {
+        match self.mutant.of {
+            Of::Roles(wrong) => wrong,
+            _ => ROLES,
+        }
+    }
+
     fn name(&self) -> String {
         match (self.mutant.of, self.kind) {
-            (Of::Operations | Of::Turns(_) | Of::Lists | Of::RefusedLists | Of::NoWidth | Of::Sizes(_), _) | (_, None) => {
+            (Of::Operations | Of::Turns(_) | Of::Lists | Of::RefusedLists | Of::NoWidth | Of::Sizes(_) | Of::Roles(_), _) | (_, None) => {
                 self.mutant.name.to_string()
             }
+            (Of::Viewers(_) | Of::SpoiledViewers(_), Some(kind)) => format!("a viewer's {kind:?}: {}", self.mutant.name),
             (_, Some(kind)) => format!("{kind:?}: {}", self.mutant.name),
         }
     }
@@ -128,7 +143,7 @@ struct Wrong<'a> {
 }
 
 // An entry of a list: the kind of its turn and of the next one, the Moves before it, its number, the exchange that it made; whether one failed or was
-// withheld, also where the turn was refused.
+// withheld, also where the turn was refused; whether it ended "absent".
 struct Entry {
     kind: Option<Kind>,
     then: Option<Kind>,
@@ -137,6 +152,7 @@ struct Entry {
     made: Exchanges,
     failed: bool,
     withheld: bool,
+    absent: bool,
 }
 
 const ONE_DONE: Exchanges = Exchanges { done: 1, failed: 0 };
@@ -144,6 +160,24 @@ const ONE_FAILED: Exchanges = Exchanges { done: 0, failed: 1 };
 const NO_EXCHANGE: Exchanges = Exchanges { done: 0, failed: 0 };
 
 impl Wrong<'_> {
+    fn absent(&self) -> bool {
+        self.reply.answer == ABSENT
+    }
+    // a viewer's call ends so in place of its right end or instead of going on
+    fn ends(&mut self, answer: u32) {
+        self.undone(0, answer);
+        self.to(Idle);
+        self.set(ANSWER, answer);
+        self.set(ANSWER_NODE, 0);
+    }
+    // where another worker would have gone in place of "absent"
+    fn placing_kind(&self) -> Kind {
+        match self.view().kind() {
+            Look => Take,
+            _ if self.was(COUNT) < self.given.limit => TakeTail,
+            _ => Level,
+        }
+    }
     fn view(&self) -> View<'_> {
         View { areas: self.before, settings: self.model.settings, worker: self.worker }
     }
@@ -323,9 +357,10 @@ impl Wrong<'_> {
             let word = |m: &Model, k: usize| m.areas.workers[RECORD * i as usize + k];
             let kind = |m: &Model| KINDS.get(word(m, KIND) as usize).copied();
             let (before, moves, made) = (kind(&m), word(&m, MOVES), m.exchanges);
-            let number = m.turn(i as u32).number;
+            let Reply { number, answer, .. } = m.turn(i as u32);
             let made = Exchanges { done: m.exchanges.done - made.done, failed: m.exchanges.failed - made.failed };
-            entries.push(Entry { kind: before, then: kind(&m), moves, number, made, failed: m.met().is_some(), withheld: m.withheld });
+            let (failed, withheld, absent) = (m.met().is_some(), m.withheld, answer == ABSENT);
+            entries.push(Entry { kind: before, then: kind(&m), moves, number, made, failed, withheld, absent });
             left -= (number != 8) as u32;
         }
         entries
@@ -347,6 +382,12 @@ impl Wrong<'_> {
         let words = RECORD * i as usize + 128..RECORD * (i as usize + 1);
         self.model.areas.workers[words.clone()].copy_from_slice(&self.before.workers[words]);
     }
+    // the settings given back have no viewers
+    fn forgets_viewers(&mut self, these: bool) {
+        if these {
+            self.model.settings.viewers = 0;
+        }
+    }
     // the settings given back have this width
     fn gives_back(&mut self, these: bool, width: u32) {
         if these {
@@ -357,7 +398,7 @@ impl Wrong<'_> {
     fn asks_before_the_width(&mut self, op: &Op, question: u32) {
         let (s, a) = (&self.given, self.before);
         let worker = match op {
-            Op::Start(i, ..) | Op::Turn(i) | Op::Last(i) => Some(*i),
+            Op::Start(i, ..) | Op::View(i, ..) | Op::Turn(i) | Op::Last(i) => Some(*i),
             Op::Turns(list, _) => list.iter().map(|&i| i as u32).max(),
             Op::Open => None,
         };
@@ -366,7 +407,7 @@ impl Wrong<'_> {
             2 => a.nodes.len() < 2 * s.nodes as usize || a.levels.len() < 2 || a.workers.len() < RECORD * s.workers as usize,
             3 => !opening && (s.nodes_taken > s.nodes || s.levels_taken == 0),
             4 => worker.is_some_and(|i| i >= s.workers),
-            5 => matches!(op, Op::Start(_, row, column) if row.max(column) > &4095),
+            5 => matches!(op, Op::Start(_, row, column) | Op::View(_, row, column) if row.max(column) > &4095),
             _ => worker == Some(0) && a.workers.first().is_some_and(|&kind| kind > 22 || kind == 0 && a.workers[ANSWER] > 3),
         };
         if no {
@@ -413,6 +454,15 @@ const fn operation(name: &'static str, wrong: fn(&Op, &mut Wrong)) -> Mutant {
 }
 const fn no_width(name: &'static str, wrong: fn(&Op, &mut Wrong)) -> Mutant {
     mutant(Of::NoWidth, name, wrong)
+}
+const fn viewed(kinds: &'static [Kind], name: &'static str, wrong: fn(&Op, &mut Wrong)) -> Mutant {
+    mutant(Of::Viewers(kinds), name, wrong)
+}
+const fn spoiled_viewed(kinds: &'static [Kind], name: &'static str, wrong: fn(&Op, &mut Wrong)) -> Mutant {
+    mutant(Of::SpoiledViewers(kinds), name, wrong)
+}
+const fn roles(name: &'static str, wrong: Roles) -> Mutant {
+    mutant(Of::Roles(wrong), name, |_, _| {})
 }
 const fn sizes(at: &'static [u32], name: &'static str, wrong: Sizes) -> Mutant {
     Mutant { name, of: Of::Sizes(wrong), at, wrong: |_, _| {} }
@@ -869,7 +919,204 @@ static MUTANTS: &[Mutant] = &[
     operation("a turn gives back no width", |op, x| x.gives_back(matches!(op, Op::Turn(_)), 0)),
     operation("a list gives back no width", |op, x| x.gives_back(matches!(op, Op::Turns(..)), 0)),
     operation("a last answer gives back no width", |op, x| x.gives_back(matches!(op, Op::Last(_)), 0)),
+    // viewers: how many there may be, and who they are
+    sizes(&WIDTHS, "level count without viewers", Sizes { level_count: |s| levels(s, last_depth(s.width)) - s.viewers as u64, ..DOCUMENT }),
+    roles("any number of viewers is accepted", Roles { accepted: |_| true, ..ROLES }),
+    roles("one viewer more than workers is accepted", Roles { accepted: |s| s.viewers <= s.workers + 1, ..ROLES }),
+    roles("16 viewers are accepted", Roles { accepted: |s| s.viewers <= 16, ..ROLES }),
+    roles("one worker has to place", Roles { accepted: |s| s.viewers < s.workers, ..ROLES }),
+    roles("no viewer is accepted", Roles { accepted: |s| s.viewers == 0, ..ROLES }),
+    roles("viewers are counted in eight bits", Roles { accepted: |s| s.viewers % 256 <= s.workers, ..ROLES }),
+    roles("the first workers are viewers", Roles { views: |s, i| i < s.viewers, ..ROLES }),
+    roles("one worker more is a viewer", Roles { views: |s, i| i + 1 >= s.placing(), ..ROLES }),
+    roles("one viewer fewer", Roles { views: |s, i| i > s.placing(), ..ROLES }),
+    roles("the last worker alone is a viewer", Roles { views: |s, i| s.viewers > 0 && i + 1 == s.workers, ..ROLES }),
+    roles("nobody is a viewer", Roles { views: |_, _| false, ..ROLES }),
+    // question 17, and the questions around it
+    roles("a viewer's placing call is accepted", Roles { may_start: |looks, viewer| viewer || !looks, ..ROLES }),
+    roles("another worker's looking call is accepted", Roles { may_start: |looks, viewer| looks || !viewer, ..ROLES }),
+    roles("17 is not asked", Roles { may_start: |_, _| true, ..ROLES }),
+    roles("17 before 4", Roles { asked_before: 4, ..ROLES }),
+    roles("17 before 5", Roles { asked_before: 5, ..ROLES }),
+    roles("17 after 6", Roles { asked_before: 7, ..ROLES }),
+    roles("17 after 7", Roles { asked_before: 8, ..ROLES }),
+    // which records fit
+    roles("a viewer's last answer may be new", Roles { told: |viewer, a| viewer && a == 1 || (ROLES.told)(viewer, a), ..ROLES }),
+    roles("a viewer's last answer may be full", Roles { told: |viewer, a| viewer && a == 3 || (ROLES.told)(viewer, a), ..ROLES }),
+    roles("a viewer's last answer may be 4", Roles { told: |viewer, a| viewer && a == 4 || (ROLES.told)(viewer, a), ..ROLES }),
+    roles("a viewer's last answer may be 6", Roles { told: |viewer, a| viewer && a == 6 || (ROLES.told)(viewer, a), ..ROLES }),
+    roles("a viewer's last answer is any", Roles { told: |viewer, a| viewer || a <= FULL, ..ROLES }),
+    roles("a viewer's last answer is as another worker's", Roles { told: |_, a| a <= FULL, ..ROLES }),
+    roles("a viewer's last answer may not be none", Roles { told: |viewer, a| !(viewer && a == NOTHING) && (ROLES.told)(viewer, a), ..ROLES }),
+    roles("a viewer's last answer may not be absent", Roles { told: |viewer, a| !(viewer && a == ABSENT) && (ROLES.told)(viewer, a), ..ROLES }),
+    roles("a viewer's last answer may not be found", Roles { told: |viewer, a| !(viewer && a == FOUND) && (ROLES.told)(viewer, a), ..ROLES }),
+    roles("another worker's last answer may be absent", Roles { told: |viewer, a| !viewer && a == ABSENT || (ROLES.told)(viewer, a), ..ROLES }),
+    roles("another worker's last answer is as a viewer's", Roles { told: |_, a| (ROLES.told)(true, a), ..ROLES }),
+    roles("a viewer's record fits at every kind", Roles { viewing: |_| true, ..ROLES }),
+    roles("a viewer's record fits while it searches", Roles { viewing: |k| k <= Follow, ..ROLES }),
+    roles("a viewer's record does not fit at Look", Roles { viewing: |k| k != Look && (ROLES.viewing)(k), ..ROLES }),
+    roles("a viewer's record does not fit at Read", Roles { viewing: |k| k != Read && (ROLES.viewing)(k), ..ROLES }),
+    roles("a viewer's record does not fit at Tail", Roles { viewing: |k| k != Tail && (ROLES.viewing)(k), ..ROLES }),
+    roles("a viewer's record does not fit at Follow", Roles { viewing: |k| k != Follow && (ROLES.viewing)(k), ..ROLES }),
+    // where a viewer's call ends
+    roles("a viewer goes to Take", Roles { ends_before: |k| k != Take && (ROLES.ends_before)(k), ..ROLES }),
+    roles("a viewer goes to TakeTail", Roles { ends_before: |k| k != TakeTail && (ROLES.ends_before)(k), ..ROLES }),
+    roles("a viewer goes to Level", Roles { ends_before: |k| k != Level && (ROLES.ends_before)(k), ..ROLES }),
+    roles("a viewer's turns are as another worker's", Roles { ends_before: |_| false, viewing: |_| true, ..ROLES }),
+    roles("a viewer ends before Read", Roles { ends_before: |k| k == Read || (ROLES.ends_before)(k), ..ROLES }),
+    roles("a viewer ends before Follow", Roles { ends_before: |k| k == Follow || (ROLES.ends_before)(k), ..ROLES }),
+    roles("a viewer ends before Tail", Roles { ends_before: |k| k == Tail || (ROLES.ends_before)(k), ..ROLES }),
+    viewed(&[Look, Tail], "absent comes a turn later", |_, x| {
+        if x.absent() {
+            x.only_goes_to(x.placing_kind());
+        }
+    }),
+    viewed(&[Look, Tail], "absent is told, and the call goes on", |_, x| {
+        if x.absent() {
+            x.only_goes_to(x.placing_kind());
+            x.reply.answer = ABSENT;
+        }
+    }),
+    viewed(&[Look, Tail], "absent is kept, and told as open", |_, x| {
+        if x.absent() {
+            x.reply.answer = OPEN;
+        }
+    }),
+    viewed(&[Look, Tail], "absent is kept as the answer before", |_, x| {
+        if x.absent() {
+            x.set(ANSWER, x.was(ANSWER));
+        }
+    }),
+    viewed(&[Look, Tail], "absent keeps the node of the answer before", |_, x| {
+        if x.absent() {
+            x.set(ANSWER_NODE, x.was(ANSWER_NODE));
+        }
+    }),
+    viewed(&[Tail], "absent keeps R as its node", |_, x| {
+        if x.absent() {
+            x.set(ANSWER_NODE, x.was(NODE));
+        }
+    }),
+    viewed(&[Tail], "absent tells R as its node", |_, x| {
+        if x.absent() {
+            x.reply.node = x.was(NODE);
+        }
+    }),
+    viewed(&[Look, Tail], "absent comes with 9", |_, x| x.reply.number = if x.absent() { 9 } else { 0 }),
+    viewed(&[Look, Tail], "full in place of absent", |_, x| {
+        if x.absent() {
+            x.ends(FULL);
+        }
+    }),
+    viewed(&[Look, Tail], "full where no node is left", |_, x| {
+        if x.absent() && x.given.nodes_taken == x.given.nodes {
+            x.ends(FULL);
+        }
+    }),
+    viewed(&[Look, Tail], "absent takes a node", |_, x| {
+        if x.absent() && x.given.nodes_taken < x.given.nodes {
+            x.model.settings.nodes_taken += 1;
+        }
+    }),
+    viewed(&[Tail], "absent at the limit takes a level", |_, x| {
+        if x.absent() && x.placing_kind() == Level {
+            x.model.settings.levels_taken += 1;
+        }
+    }),
+    viewed(&[Tail], "absent below the limit alone", |_, x| {
+        if x.absent() && x.placing_kind() == Level {
+            x.only_goes_to(Follow);
+        }
+    }),
+    viewed(&[Tail], "absent at the limit alone", |_, x| {
+        if x.absent() && x.placing_kind() == TakeTail {
+            x.only_goes_to(Follow);
+        }
+    }),
+    viewed(&[Read, Follow], "absent for K's own node", |_, x| {
+        if x.reply.answer == FOUND {
+            x.ends(ABSENT);
+        }
+    }),
+    viewed(&[Read, Follow], "new for K's own node", |_, x| {
+        if x.reply.answer == FOUND {
+            x.reply.answer = NEW;
+        }
+    }),
+    spoiled_viewed(&[Look, Tail], "absent loses the held node", |_, x| {
+        if x.absent() {
+            x.set(HELD_NODE, 0);
+        }
+    }),
+    spoiled_viewed(&[Look, Tail], "absent loses the held level", |_, x| {
+        if x.absent() {
+            x.set(HELD_LEVEL, 0);
+        }
+    }),
+    spoiled_viewed(&[Tail], "absent past the limit", |_, x| {
+        if x.went_to(Follow) && x.view().read() == 2 * x.was(LEVEL) {
+            x.ends(ABSENT);
+        }
+    }),
+    spoiled_viewed(&[Tail], "a new level's depth is asked", |_, x| {
+        if x.absent() && x.placing_kind() == Level && x.view().get(x.view().depth_of(x.was(LEVEL))) >= x.last_depth() {
+            x.undone(6, NOTHING);
+        }
+    }),
+    spoiled_viewed(&[Tail], "the level's depth is asked", |_, x| {
+        if x.view().get(x.view().depth_of(x.was(LEVEL))) > x.last_depth() {
+            x.undone(6, NOTHING);
+        }
+    }),
+    // the other operations with viewers
+    operation("last answer: absent is told as none", |op, x| {
+        if matches!(op, Op::Last(_)) && x.absent() {
+            x.reply.answer = NOTHING;
+        }
+    }),
+    operation("last answer: absent has a node", |op, x| {
+        if matches!(op, Op::Last(_)) && x.absent() {
+            x.reply.node = x.is(ANSWER_NODE);
+        }
+    }),
+    operation("view: row and column are exchanged", |op, x| {
+        if let Op::View(_, row, column) = op {
+            x.set(PIXEL, column * 4096 + row);
+        }
+    }),
+    operation("view: begins where the call before ended", |op, x| {
+        if matches!(op, Op::View(..)) {
+            x.set(LEVEL, x.was(LEVEL));
+        }
+    }),
+    operation("an opening gives back no viewers", |op, x| x.forgets_viewers(matches!(op, Op::Open))),
+    operation("a start gives back no viewers", |op, x| x.forgets_viewers(matches!(op, Op::Start(..)))),
+    operation("a view gives back no viewers", |op, x| x.forgets_viewers(matches!(op, Op::View(..)))),
+    operation("a turn gives back no viewers", |op, x| x.forgets_viewers(matches!(op, Op::Turn(_)))),
+    operation("a list gives back no viewers", |op, x| x.forgets_viewers(matches!(op, Op::Turns(..)))),
+    operation("a last answer gives back no viewers", |op, x| x.forgets_viewers(matches!(op, Op::Last(_)))),
+    list("list: viewers' entries are passed over", |op, x| {
+        if let Op::Turns(list, limit) = op {
+            let others = list.iter().copied().filter(|&i| !x.given.views(i as u32)).collect();
+            x.instead(&Op::Turns(others, *limit));
+        }
+    }),
+    list("list: an absent ends it", |op, x| {
+        if let (Op::Turns(list, limit), Some(k)) = (op, x.entries(op).iter().position(|e| e.absent)) {
+            x.instead(&Op::Turns(list[..=k].to_vec(), *limit));
+        }
+    }),
+    list("list: an absent is no turn done", |op, x| x.reply.turns -= x.entries(op).iter().filter(|e| e.absent).count() as u32),
+    list("list: an absent counts as failed", |op, x| x.counts(op, |e| if e.absent { ONE_FAILED } else { e.made })),
 ];
+
+// A viewer's record that fits at one kind more.
+macro_rules! fits_at {
+    ($($kind:ident)*) => {
+        &[$(roles(concat!("a viewer's record fits at ", stringify!($kind)), Roles { viewing: |k| k == $kind || (ROLES.viewing)(k), ..ROLES })),*]
+    };
+}
+static KINDS_MORE: &[Mutant] = fits_at!(Take Put TakeTail Append Level Close ChainHead ChainNext SetNext SetLook SetPut SetRead SetTail SetAppend SetLevel SetClose SetFollow MoveEnd);
 
 // Wrong machines, of which failed exchanges are not bounded: one that tries again without reading, and ones that exchange a cell that they read as used.
 static MACHINES: &[Mutant] = &[
@@ -882,7 +1129,7 @@ static MACHINES: &[Mutant] = &[
 
 // Each wrong version through the same sequences until the first difference, at each width at which it is wrong; gives the names of those not found there.
 pub fn missed(seed: u64) -> Vec<String> {
-    let all: Vec<Chosen> = MUTANTS.iter().flat_map(each).collect();
+    let all: Vec<Chosen> = MUTANTS.iter().chain(KINDS_MORE).flat_map(each).collect();
     for k in &KINDS[1..] {
         assert!(all.iter().any(|m| m.kind == Some(*k)), "no wrong version of {k:?}");
     }
@@ -924,11 +1171,16 @@ fn unbounded(seed: u64) -> Vec<String> {
 // a wrong version of several kinds must be found at each of them
 fn each(mutant: &'static Mutant) -> Vec<Chosen> {
     match mutant.of {
-        Of::Operations | Of::Lists | Of::RefusedLists | Of::NoWidth | Of::Sizes(_) => vec![Chosen { mutant, kind: None }],
+        Of::Operations | Of::Lists | Of::RefusedLists | Of::NoWidth | Of::Sizes(_) | Of::Roles(_) => vec![Chosen { mutant, kind: None }],
         Of::Turns(kind) => vec![Chosen { mutant, kind: Some(kind) }],
-        Of::Failed(kinds) | Of::Asked(kinds) | Of::Spoiled(kinds) | Of::Refused(kinds) | Of::Counts(kinds) | Of::SpoiledCounts(kinds) => {
-            kinds.iter().map(|&kind| Chosen { mutant, kind: Some(kind) }).collect()
-        }
+        Of::Failed(kinds)
+        | Of::Asked(kinds)
+        | Of::Spoiled(kinds)
+        | Of::Refused(kinds)
+        | Of::Counts(kinds)
+        | Of::SpoiledCounts(kinds)
+        | Of::Viewers(kinds)
+        | Of::SpoiledViewers(kinds) => kinds.iter().map(|&kind| Chosen { mutant, kind: Some(kind) }).collect(),
     }
 }
 
@@ -941,7 +1193,7 @@ fn found_after(m: Chosen, width: u32, seed: u64) -> Option<u64> {
 }
 
 fn some_difference(of: Of, width: u32, seed: u64, total: &mut Total) -> Compared<()> {
-    let spoiled = matches!(of, Of::Asked(_) | Of::Spoiled(_) | Of::Refused(_) | Of::SpoiledCounts(_));
+    let spoiled = matches!(of, Of::Asked(_) | Of::Spoiled(_) | Of::Refused(_) | Of::SpoiledCounts(_) | Of::SpoiledViewers(_));
     if spoiled {
         return six::one_width(width, seed, total).map(|_| ());
     }
@@ -955,10 +1207,15 @@ fn some_difference(of: Of, width: u32, seed: u64, total: &mut Total) -> Compared
         six::one_width(width, seed, total)?;
         return refusals::all(width, seed, total);
     }
+    if let Of::Roles(_) = of {
+        viewers::all(width, seed, total)?;
+        return refusals::all(width, seed, total);
+    }
     let r = &mut Random::new(seed);
     sequences::written(width, total)?;
     exchanges::all(width, total)?;
     lists::all(width, seed, total)?;
+    viewers::all(width, seed, total)?;
     while total.turns < 300_000 {
         sequences::orders(width, r.next(), total)?;
     }

@@ -10,22 +10,26 @@ use crate::words::{Place, ANSWER, ANSWER_NODE, KIND, MOVES, RECORD};
 pub enum Op {
     Open,
     Start(u32, u32, u32),
+    View(u32, u32, u32),
     Turn(u32),
     Turns(Vec<u8>, u32),
     Last(u32),
 }
 
-pub const OPERATIONS: [&str; 5] = ["opening", "start", "turn", "list of turns", "last answer"];
-pub type Numbers = [[u64; 10]; OPERATIONS.len()];
+pub const OPERATIONS: [&str; 6] = ["opening", "start", "view", "turn", "list of turns", "last answer"];
+// numbers 0 to 9 and 17
+pub const NUMBER_COUNT: usize = 18;
+pub type Numbers = [[u64; NUMBER_COUNT]; OPERATIONS.len()];
 
 impl Op {
     pub fn index(&self) -> usize {
         match self {
             Op::Open => 0,
             Op::Start(..) => 1,
-            Op::Turn(..) => 2,
-            Op::Turns(..) => 3,
-            Op::Last(..) => 4,
+            Op::View(..) => 2,
+            Op::Turn(..) => 3,
+            Op::Turns(..) => 4,
+            Op::Last(..) => 5,
         }
     }
 }
@@ -113,6 +117,9 @@ impl Pair {
         if !self.kept(&op, &got, given) {
             return Err(self.difference(format!("{op:?}: refused by {}, and something changed", got.number)));
         }
+        if !self.only_looked(&op, &got, given) {
+            return Err(self.difference(format!("{op:?}: a viewer changed more than its own record")));
+        }
         self.fresh |= matches!(op, Op::Open) && got.number == 0;
         if self.fresh {
             self.bounded(&op, got.number, given, made_before).map_err(|text| self.difference(format!("{op:?}: {text}")))?;
@@ -142,6 +149,18 @@ impl Pair {
             }
         }
         self.table.areas == self.before && got.settings == given && got.turns == 0
+    }
+
+    // "Striking all viewers' starts and turns from a sequence leaves every other worker's answers, all nodes and all levels the same"
+    fn only_looked(&self, op: &Op, got: &Reply, given: Settings) -> bool {
+        let (Op::Start(i, ..) | Op::View(i, ..) | Op::Turn(i)) = op else { return true };
+        if got.number != 0 || !given.views(*i) {
+            return true;
+        }
+        let (now, before) = (&self.table.areas, &self.before);
+        let (from, to) = (RECORD * *i as usize, RECORD * (*i as usize + 1));
+        let others = |a: &Areas| a.workers[..from] == before.workers[..from] && a.workers[to..] == before.workers[to..];
+        got.settings == given && now.nodes == before.nodes && now.levels == before.levels && others(now)
     }
 
     fn words_that_differ(&self) -> String {

@@ -1,5 +1,5 @@
-// The text program, run as a program: document 01's texts with its output, each number that a text can meet just inside and just outside its case, forms
-// of lines, lengths; then random texts, and wrong versions of the program coded apart.
+// The text program, run as a program: document 01's texts with its output, viewers, each number that a text can meet just inside and just outside its case,
+// forms of lines, lengths; then random texts, and wrong versions of the program coded apart.
 use crate::model::Kind::{self, Idle, Put};
 use crate::pair::Compared;
 use crate::random::Random;
@@ -66,6 +66,7 @@ fn written() -> Vec<Case> {
         examples(),
         a_move_turn_by_turn(),
         sizes(),
+        viewers(),
         refused_starts_and_turns(),
         first_lines(),
         bytes_in_the_first_line(),
@@ -116,6 +117,8 @@ fn examples() -> Vec<Case> {
     let seen = text::printed(&DOCUMENT, &example("retries.txt")).seen;
     let [done, failed] = [seen.went, seen.failed].map(|of| of[Put as usize][Idle as usize]);
     assert_eq!((done, failed, seen.turns()), (1, 3, 12), "exchanges done and failed of examples/retries.txt");
+    let viewer = String::from_utf8(example("viewer.txt")).expect("examples/viewer.txt");
+    let struck: String = viewer.lines().filter(|line| !line.starts_with("v,") && *line != "t,1").map(|line| line.to_string() + "\n").collect();
     let refused = "refused,2,8 refused,3,4 refused,4,5 refused,6,7 0,0,0,new,0 refused,10,8 refused,11,10 refused,12,10 refused,13,10 refused,14,10
         refused,15,10 1,0,0,found,0 end,1,1";
     vec![
@@ -125,6 +128,8 @@ fn examples() -> Vec<Case> {
             output: Some(b"worker,row,column,answer,node\n0,0,0,new,0\n1,0,0,found,0\nrefused,10,8\nend,2,1\n".to_vec()),
         },
         case("move.txt", example("move.txt"), "0,0,0,new,0 0,64,0,new,1 1,64,0,found,1 0,128,0,new,2 end,3,2"),
+        case("viewer.txt", example("viewer.txt"), "0,0,0,new,0 0,64,0,new,1 1,64,0,found,1 1,128,0,absent,- 0,128,0,new,2 1,128,0,found,2 end,3,2"),
+        case("viewer.txt without the viewer's lines", struck, "0,0,0,new,0 0,64,0,new,1 0,128,0,new,2 end,3,2"),
         case("refusals.txt", example("refusals.txt"), refused),
         case("full.txt", example("full.txt"), "0,0,0,new,0 0,1,1,full,- 0,512,0,full,- 0,0,0,found,0 end,1,1"),
         // all four look, take and put; three Puts fail and find node 0, and three nodes are spare
@@ -157,6 +162,63 @@ fn sizes() -> Vec<Case> {
     let opened = inside.map(|x| case(&format!("sizes {x}"), lines(&format!("s,{x} c,0,7,9 t,0 t,0 t,0")), "0,7,9,new,0 end,1,1"));
     let refused = outside.map(|x| case(&format!("sizes {x}"), lines(&format!("s,{x} c,0,7,9 t,0 t,0 t,0")), "refused,1,1"));
     opened.into_iter().chain(refused).collect()
+}
+
+// The fifth field of the first line; `v` lines, their answers and numbers 4, 5, 17 and 7.
+fn viewers() -> Vec<Case> {
+    let opened = ["1,1,1,0", "2,4,8,0", "2,4,8,1", "16,8,128,1", "16,1,128,15"].map(|x| {
+        let (places, looks) = ("c,0,7,9 t,0 t,0 t,0", x.split(',').next().unwrap().parse::<u32>().unwrap() - 1);
+        let all = if x.ends_with(",0") {
+            (format!("v,{looks},7,9 t,{looks}"), "refused,6,17 refused,7,8".to_string())
+        } else {
+            (format!("v,{looks},7,9 t,{looks} t,{looks}"), format!("{looks},7,9,found,0"))
+        };
+        case(&format!("viewers {x}"), lines(&format!("s,{x} {places} {}", all.0)), &format!("0,7,9,new,0 {} end,1,1", all.1))
+    });
+    let all = ["1,1,1,1", "2,4,8,2", "16,8,128,16"]
+        .map(|x| case(&format!("viewers {x}"), lines(&format!("s,{x} c,0,7,9 v,0,7,9 t,0 t,0")), "refused,2,17 0,7,9,absent,- refused,5,8 end,0,1"));
+    let refused = ["1,1,1,2", "2,4,8,3", "16,8,128,17", "1,1,1,9999", "0,1,1,0", "17,1,1,1", "1,9,1,1", "1,1,129,1", "0,0,0,0"]
+        .map(|x| case(&format!("viewers {x}"), lines(&format!("s,{x} v,0,7,9 c,0,7,9 t,0")), "refused,1,1"));
+    let written = vec![
+        case(
+            "absent, found, absent in a chain",
+            lines("s,2,4,8,1 v,1,0,0 t,1 c,0,0,0 t,0 t,0 t,0 v,1,0,0 t,1 t,1 v,1,0,1 t,1 t,1 t,1 t,1"),
+            "1,0,0,absent,- 0,0,0,new,0 1,0,0,found,0 1,0,1,absent,- refused,15,8 end,1,1",
+        ),
+        case(
+            "absent with no node left, where another worker is full",
+            lines("s,2,1,1,1 c,0,0,0 t,0 t,0 t,0 v,1,512,0 t,1 v,1,0,1 t,1 t,1 t,1 c,0,512,0 t,0 t,0"),
+            "0,0,0,new,0 1,512,0,absent,- 1,0,1,absent,- 0,512,0,full,- end,1,1",
+        ),
+        case(
+            "a viewer's call that is open while its pixel is placed",
+            lines("s,2,4,8,1 c,0,0,0 t,0 t,0 v,1,0,0 t,0 t,1 t,1 v,1,0,0 t,1 t,1"),
+            "0,0,0,new,0 1,0,0,found,0 1,0,0,found,0 end,1,1",
+        ),
+        case(
+            "17 between 5 and 7",
+            lines("s,2,4,8,1 c,1,0,0 v,0,0,0 c,1,4096,0 v,0,0,4096 c,2,0,0 v,2,0,0 v,1,0,0 c,1,0,0 c,1,4096,0 v,1,4096,0 v,1,0,0 t,1 c,0,0,0 v,0,0,0 c,0,0,0"),
+            "refused,2,17 refused,3,17 refused,4,5 refused,5,5 refused,6,4 refused,7,4 refused,9,17 refused,10,5 refused,11,5 refused,12,7
+            1,0,0,absent,- refused,15,17 refused,16,7 end,0,1",
+        ),
+        case("v without viewers", lines("s,2,4,8 v,0,0,0 v,1,0,0 v,2,0,0 v,1,4096,0"), "refused,2,17 refused,3,17 refused,4,4 refused,5,5 end,0,1"),
+        case(
+            "10 before 4, 5, 17 and 7",
+            lines("s,2,4,8,1 v,2,0,00 v,0,0,00 v,1,04096,0 v,1,0,0 v,1,00,0 s,2,4,8,1"),
+            "refused,2,10 refused,3,10 refused,4,10 refused,6,10 refused,7,10 end,0,1",
+        ),
+        case("10 before 1, in the fifth field", lines("s,1,1,1,02 s,1,1,1"), "refused,1,10"),
+        case("unended first line with viewers", "s,1,1,1,1", "refused,1,10"),
+        case("unended last line, a viewer's call", "s,1,4,8,1\nv,0,0,0", "refused,2,10 end,0,1"),
+        case("unended last line, a viewer's turn", "s,1,4,8,1\nv,0,0,0\nt,0", "refused,3,10 end,0,1"),
+    ];
+    // 15 viewers beside one that places: each looks before it has put its node, and after
+    let each = |line: &dyn Fn(u32) -> String| (1..16).map(line).collect::<String>();
+    let looks = each(&|i| format!("v,{i},0,0\nt,{i}\n"));
+    let beside = format!("s,16,8,1,15\nc,0,0,0\nt,0\nt,0\n{looks}t,0\n{looks}{}", each(&|i| format!("t,{i}\n")));
+    let rows = |answer: &str| each(&|i| format!("{i},0,0,{answer} "));
+    let beside = case("15 viewers", beside, &format!("{} 0,0,0,new,0 {} end,1,1", rows("absent,-"), rows("found,0")));
+    opened.into_iter().chain(all).chain(refused).chain(written).chain([beside]).collect()
 }
 
 // numbers 4, 5, 7 and 8, and the order of the questions
@@ -199,9 +261,10 @@ fn refused_starts_and_turns() -> Vec<Case> {
 // First lines that are refused by 10: nothing after them is read, and there is no end line.
 fn first_lines() -> Vec<Case> {
     let shapes =
-        ", s s, s,1 s,1, s,1,1 s,1,1, s,,1,1 s,1,,1 s,,, s,1,1,1, s,1,1,1,1 s,1,1,1,, ,s,1,1,1 S,1,1,1 ss,1,1,1 c,1,1,1 c,0,0,0 t,0 ,1,1,1 1,1,1
+        ", s s, s,1 s,1, s,1,1 s,1,1, s,,1,1 s,1,,1 s,,, s,1,1,1, s,1,1,1,, ,s,1,1,1 S,1,1,1 ss,1,1,1 c,1,1,1 c,0,0,0 v,0,0,0 t,0 ,1,1,1 1,1,1
+        s,1,1,1,1, s,1,1,1,1,1 s,1,1,1,0,0 s,,1,1,1 s,1,1,,1 s,1,1,1,01 s,1,1,1,00 s,1,1,1,10000 s,1,1,1,-1 s,1,1,1,+1 s,1,1,1,x s,1,1,1,1x S,1,1,1,1
         s1,1,1 s;1;1;1 s,01,1,1 s,1,08,1 s,1,1,0128 s,1,1,10000 s,1,1,-1 s,1,1,+1 \"s\",1,1,1 worker,row,column,answer,node";
-    let spaced = ["", " ", "s 1 1 1", " s,1,1,1", "s,1,1,1 ", "s,1,1,1\r", "\r", "\0", "\u{feff}s,1,1,1"];
+    let spaced = ["", " ", "s 1 1 1", " s,1,1,1", "s,1,1,1 ", "s,1,1,1\r", "s,1,1,1,1\r", "s,1,1,1,1 ", "s,1,1,1, 1", "\r", "\0", "\u{feff}s,1,1,1"];
     let refused = |line: &str| {
         let more = "s,1,1,1\nc,0,0,0\nt,0\n";
         let name = format!("first line `{line}`");
@@ -210,16 +273,18 @@ fn first_lines() -> Vec<Case> {
     shapes.split_whitespace().chain(spaced).flat_map(refused).collect()
 }
 
-// `s,1,1,1` with one byte changed or inserted: the bytes beside the digits, the comma and the letter, and far from them
+// `s,1,1,1` and its fifth field with one byte changed or inserted: the bytes beside the digits, the comma and the letter, and far from them
 fn bytes_in_the_first_line() -> Vec<Case> {
     let mut cases = vec![];
     for byte in [0, b'\n', b'\r', b' ', b',', b'/', b'0', b':', b'r', b't', 0x80, 0xff] {
-        for place in 0..=7 {
-            let mut line = b"s,1,1,1\nt,0\n".to_vec();
-            line.insert(place, byte);
-            cases.push(compared(&format!("byte {byte} before byte {place} of the first line"), line.clone()));
-            line.remove(place + 1);
-            cases.push(compared(&format!("byte {byte} as byte {place} of the first line"), line));
+        for (text, places) in [("s,1,1,1\nt,0\n", 0..=7), ("s,1,1,1,1\nv,0,0,0\nt,0\n", 7..=9)] {
+            for place in places {
+                let mut line = text.as_bytes().to_vec();
+                line.insert(place, byte);
+                cases.push(compared(&format!("byte {byte} before byte {place} of {text:?}"), line.clone()));
+                line.remove(place + 1);
+                cases.push(compared(&format!("byte {byte} as byte {place} of {text:?}"), line));
+            }
         }
     }
     cases
@@ -253,12 +318,15 @@ fn none_reads(name: &str, further: &[String]) -> Case {
     case(name, format!("s,16,8,128\n{}\n", further.join("\n")), &(rows + "end,0,1"))
 }
 
-// fields that are no number, in each place of a start and of a turn; numbers of each length
+// fields that are no number, in each place of a start of either sort and of a turn; numbers of each length
 fn forms_of_numbers() -> Vec<Case> {
     let plain = "00 01 07 010 0000 0001 00000 00001 10000 12345 65536 4294967296 18446744073709551616 +1 -1 -0 1.0 1e1 0x1 a 1a \"1\" ' / : ١";
     let mut further = vec![];
     for form in plain.split_whitespace().chain(["", " ", " 1", "1 ", "\t1", "1\r", "\r", "\0", "1\0", "\u{7f}"]) {
-        further.extend([format!("c,{form},0,0"), format!("c,0,{form},0"), format!("c,0,0,{form}"), format!("t,{form}")]);
+        for letter in ['c', 'v'] {
+            further.extend([format!("{letter},{form},0,0"), format!("{letter},0,{form},0"), format!("{letter},0,0,{form}")]);
+        }
+        further.push(format!("t,{form}"));
     }
     let pixels = [(0, 0), (9, 10), (99, 100), (999, 1000), (4095, 1)];
     let rows = "0,0,0,new,0 0,9,10,new,1 0,99,100,new,2 0,999,1000,new,3 0,4095,1,new,4 end,5,1";
@@ -267,19 +335,20 @@ fn forms_of_numbers() -> Vec<Case> {
 
 fn forms_of_lines() -> Vec<Case> {
     let starts = "c c, c,0 c,0,0 c,0,0, c,0,0,0, c,0,0,0,0 c,,0,0 c,0,,0 c,,, c,0,0,,0 ,c,0,0,0 C,0,0,0 cc,0,0,0 c0,0,0 c;0;0;0 c,0,0,0;t,0";
+    let views = "v v, v,0 v,0,0 v,0,0, v,0,0,0, v,0,0,0,0 v,,0,0 v,0,,0 v,,, v,0,0,,0 ,v,0,0,0 V,0,0,0 vv,0,0,0 cv,0,0,0 v0,0,0 v;0;0;0 v,0,0,0;t,0";
     let turns = "t t, t,0, t,0,0 t,,0 ,t,0 T,0 tt,0 t0 t;0 t,0t,0 té,0";
-    let others = "s s,16,8,128 s,1,1,1 S,1,1,1 x,0 ,0 , ,, ,,, 0 0,0 end,0,1 refused,1,1 worker,row,column,answer,node 0,0,0,new,0 # -";
+    let others = "s s,16,8,128 s,16,8,128,16 s,1,1,1 s,1,1,1,1 S,1,1,1 x,0 ,0 , ,, ,,, 0 0,0 end,0,1 refused,1,1 worker,row,column,answer,node 0,0,0,new,0 # -";
     let spaced = ["", " ", "\t", "t,0 ", " t,0", "t ,0", "t, 0", "t,0\t", "c,0,0,0 ", "c,0,0, 0", "\u{feff}t,0"];
-    let all = [starts, turns, others].into_iter().flat_map(str::split_whitespace).chain(spaced);
+    let all = [starts, views, turns, others].into_iter().flat_map(str::split_whitespace).chain(spaced);
     vec![none_reads("lines of other shapes", &all.map(str::to_string).collect::<Vec<_>>())]
 }
 
-// Each byte inserted at each place of a turn and of a start, and in place of each of their bytes.
+// Each byte inserted at each place of a turn and of a start of either sort, and in place of each of their bytes.
 fn every_byte() -> Vec<Case> {
     let mut cases = vec![];
-    for line in ["t,0", "c,1,2,3"] {
+    for (line, first) in [("t,0", "s,2,8,128\n"), ("c,1,2,3", "s,2,8,128\n"), ("v,1,2,3", "s,3,8,128,2\n")] {
         for place in 0..=line.len() {
-            let mut input = b"s,2,8,128\nc,0,0,0\n".to_vec();
+            let mut input = [first, "c,0,0,0\n"].concat().into_bytes();
             let (before, after) = line.as_bytes().split_at(place);
             for byte in 0..=255u8 {
                 for rest in [after, after.get(1..).unwrap_or(b"")] {

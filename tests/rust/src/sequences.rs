@@ -7,7 +7,13 @@ use crate::random::Random;
 use crate::words::{home, level_at, remembered, Place, View, COUNT, KIND, LEVEL, MOVES, NODE, PIXEL, RECORD, TOP};
 
 pub fn settings(workers: u32, limit: u32, nodes: u32, width: u32) -> Settings {
-    Settings { workers, limit, nodes, nodes_taken: 0, levels_taken: 1, width }
+    Settings { workers, limit, nodes, nodes_taken: 0, levels_taken: 1, viewers: 0, width }
+}
+
+// any number of viewers; none half of the time
+pub fn some_viewers(r: &mut Random, s: Settings) -> Settings {
+    let viewers = r.below(s.workers as u64 + 1) as u32;
+    Settings { viewers: if r.below(2) == 0 { viewers } else { 0 }, ..s }
 }
 
 // areas with `more` words beyond those needed
@@ -38,6 +44,25 @@ pub fn pixel(width: u32, digits: &str) -> u32 {
 pub fn start(i: u32, pixel: u32) -> Op {
     Op::Start(i, pixel >> 12, pixel & 4095)
 }
+pub fn view(i: u32, pixel: u32) -> Op {
+    Op::View(i, pixel >> 12, pixel & 4095)
+}
+// a call of worker i of the sort that it has
+pub fn call(s: &Settings, i: u32, (row, column): (u32, u32)) -> Op {
+    if s.views(i) {
+        Op::View(i, row, column)
+    } else {
+        Op::Start(i, row, column)
+    }
+}
+// and of the sort that is refused by 17
+pub fn other_call(s: &Settings, i: u32, (row, column): (u32, u32)) -> Op {
+    if s.views(i) {
+        Op::Start(i, row, column)
+    } else {
+        Op::View(i, row, column)
+    }
+}
 
 // Pixels that share long beginnings, so that chains close and Moves nest.
 pub fn clustered(r: &mut Random, spread: u64) -> (u32, u32) {
@@ -49,8 +74,8 @@ pub fn clustered(r: &mut Random, spread: u64) -> (u32, u32) {
 // a turn of worker i, or a start if it is idle
 pub fn go_on(r: &mut Random, p: &mut Pair, i: u32, spread: u64) -> Compared<()> {
     if p.run(Op::Turn(i))?.number == 8 {
-        let (row, column) = clustered(r, spread);
-        p.run(Op::Start(i, row, column))?;
+        let pixel = clustered(r, spread);
+        p.run(call(&p.table.settings, i, pixel))?;
     }
     Ok(())
 }
@@ -64,6 +89,7 @@ pub fn orders(width: u32, seed: u64, total: &mut Total) -> Compared<()> {
     let r = &mut Random::new(seed);
     let limit = r.pick(&[1, 1, 1, 2, 2, 3, 4, 5, 6, 7, 8]);
     let s = settings(1 + r.below(16) as u32, limit, 1 + r.below(64) as u32, width);
+    let s = some_viewers(r, s);
     let spread = r.pick(&[2, 3, 4, 6, 8, 12, 24]);
     any_order(r, total, s, spread, 2000, &format!("orders {seed} {width}"))
 }
@@ -71,10 +97,11 @@ pub fn orders(width: u32, seed: u64, total: &mut Total) -> Compared<()> {
 pub fn large(width: u32, seed: u64, total: &mut Total) -> Compared<()> {
     let r = &mut Random::new(seed);
     let s = settings(1 + r.below(16) as u32, 1 + r.below(8) as u32, r.pick(&[256, 1024, 4096]), width);
+    let s = some_viewers(r, s);
     any_order(r, total, s, 24, 20_000, &format!("large {seed} {width}"))
 }
 
-// Random starts, turns, lists and reads of last answers on a fresh table.
+// Random starts, turns, lists and reads of last answers on a fresh table, calls of the other sort among them.
 fn any_order(r: &mut Random, total: &mut Total, s: Settings, spread: u64, steps: u64, what: &str) -> Compared<()> {
     let (more, fill) = (r.pick(&[0, 0, 1, 7, 200]), r.next() as u32);
     let mut p = opened(total, s, more, fill, what)?;
@@ -91,13 +118,30 @@ fn any_order(r: &mut Random, total: &mut Total, s: Settings, spread: u64, steps:
                 p.run(some_list(r, s.workers, 39))?;
             }
             2 => {
+                p.run(call(&s, i, clustered(r, spread)))?;
+            }
+            3 => {
                 let (row, column) = clustered(r, spread);
-                p.run(Op::Start(i, row, column))?;
+                p.run(other_call(&s, i, r.pick(&[(row, column), (row, column), (4096, column), (row, 4096)])))?;
             }
             _ => go_on(r, &mut p, i, spread)?,
         }
     }
+    too_many_viewers(r, total, &p)?;
     total.add(&p);
+    Ok(())
+}
+
+// "0 up to all of them, and more is refusal 1": with more viewers than workers a copy refuses everything by 1
+fn too_many_viewers(r: &mut Random, total: &mut Total, p: &Pair) -> Compared<()> {
+    let mut q = p.again();
+    let (workers, i) = (p.table.settings.workers, r.below(p.table.settings.workers as u64) as u32);
+    let viewers = r.pick(&[workers + 1, workers + 1, 17, 256, u32::MAX]).max(workers + 1);
+    q.edit(|_, s| s.viewers = viewers);
+    for op in [Op::Start(i, 0, 0), Op::View(i, 0, 0), Op::Turn(i), some_list(r, workers, 5), Op::Last(i), Op::Open] {
+        assert_eq!(q.run(op.clone())?.number, 1, "{}: {op:?} with {viewers} viewers of {workers} workers", p.what);
+    }
+    total.add(&q);
     Ok(())
 }
 
@@ -107,14 +151,15 @@ pub fn written(width: u32, total: &mut Total) -> Compared<()> {
     way_back_in_a_move(width, total)
 }
 
-// Openings one after another over the same areas, each with another width, calls amid Moves left behind; the last one is at the width named. No wrong version
-// is tried on it: each is to be found at the width at which it is wrong.
+// Openings one after another over the same areas, each with another width and any number of viewers, calls amid Moves left behind; the last one is at the width
+// named. No wrong version is tried on it: each is to be found at the width at which it is wrong.
 pub fn reopened(width: u32, seed: u64, total: &mut Total) -> Compared<()> {
     let r = &mut Random::new(seed + width as u64);
     let widest = settings(5, 1, 24, *WIDTHS.last().expect("four widths"));
     let mut p = total.pair(widest, sized(&widest, 0, 7), &format!("reopened, width {width}"));
     for other in WIDTHS.into_iter().filter(|&w| w != width).chain([width]) {
-        p.edit(|_, s| s.width = other);
+        let viewers = r.below(4) as u32;
+        p.edit(|_, s| (s.viewers, s.width) = (viewers, other));
         p.run(Op::Open)?;
         let mut q = p.again();
         for _ in 0..1500 {
@@ -211,7 +256,7 @@ pub fn stand_before(p: &mut Pair, i: u32, kind: Kind) -> Compared<()> {
 
 // a whole call of worker i alone: its answer and node
 pub fn whole(p: &mut Pair, i: u32, pixel: u32) -> Compared<(u32, u32)> {
-    p.run(start(i, pixel))?;
+    p.run(call(&p.table.settings, i, (pixel >> 12, pixel & 4095)))?;
     for _ in 0..100_000 {
         let q = p.run(Op::Turn(i))?;
         if q.answer != model::OPEN {
@@ -225,6 +270,7 @@ pub fn whole(p: &mut Pair, i: u32, pixel: u32) -> Compared<(u32, u32)> {
 pub fn spoiled(width: u32, seed: u64, total: &mut Total) -> Compared<()> {
     let r = &mut Random::new(seed);
     let s = settings(1 + r.below(4) as u32, r.pick(&[1, 1, 2, 3, 8]), 1 + r.below(24) as u32, width);
+    let s = some_viewers(r, s);
     let more = r.below(3) as usize;
     let mut p = opened(total, s, more, 3, &format!("spoiled {seed} {width}"))?;
     let spread = r.pick(&[2, 3, 6, 12]);
@@ -241,10 +287,11 @@ pub fn spoiled(width: u32, seed: u64, total: &mut Total) -> Compared<()> {
         }
         for _ in 0..r.below(12) {
             let i = r.below(s.workers as u64) as u32;
-            match r.below(6) {
+            match r.below(7) {
                 0 => p.run(Op::Start(i, r.below(4097) as u32, r.below(4097) as u32))?,
-                1 => p.run(Op::Last(i))?,
-                2 => p.run(some_list(r, s.workers, 12))?,
+                1 => p.run(Op::View(i, r.below(4097) as u32, r.below(4097) as u32))?,
+                2 => p.run(Op::Last(i))?,
+                3 => p.run(some_list(r, s.workers, 12))?,
                 _ => p.run(Op::Turn(i))?,
             };
         }
@@ -298,12 +345,17 @@ fn spoil_exchange(r: &mut Random, p: &mut Pair) -> bool {
     true
 }
 
-// One word near what the next turns read set to something near its bounds, or levels taken to any number that question 3 accepts.
+// One word near what the next turns read set to something near its bounds, or levels taken to any number that question 3 accepts, or viewers to any number
+// of workers, and one more.
 fn spoil(r: &mut Random, p: &mut Pair) {
     let s = p.model.settings;
     let (nt, lt) = (s.nodes_taken, s.levels_taken);
     if r.below(17) == 0 {
         p.put(Place::LevelsTaken, 1 + r.below(model::level_count(&s)) as u32);
+        return;
+    }
+    if r.below(17) == 0 {
+        p.put(Place::Viewers, r.below(s.workers as u64 + 2) as u32);
         return;
     }
     let (last, limit) = (model::last_depth(s.width), s.limit);

@@ -2,10 +2,10 @@
 // outside the clause, where the table must answer 6 with nothing changed, and to values just inside, where it must not. The words that a kind does not read
 // are spoilt too. Most clauses need nothing else written; `first` is for those that real calls never come near.
 use crate::coverage::Total;
-use crate::model::{self, Kind, Kind::*, KINDS, NONE, WIDTHS};
+use crate::model::{self, Kind, Kind::*, Settings, ABSENT, KINDS, NONE, WIDTHS};
 use crate::pair::{Compared, Op, Pair};
 use crate::random::Random;
-use crate::sequences::{go_on, opened, settings};
+use crate::sequences::{call, go_on, opened, other_call, settings};
 use crate::words::*;
 
 const MAX: u32 = u32::MAX;
@@ -30,11 +30,16 @@ fn free(place: Place, values: &[u32]) -> Option<Spot> {
 
 struct Clause {
     name: &'static str,
-    kinds: Vec<Kind>,
+    // of placing workers, and of viewers
+    kinds: [Vec<Kind>; 2],
     // the record alone is asked, so by a start and by reading a last answer too
     record: bool,
     spot: fn(&View) -> Option<Spot>,
 }
+
+// where a viewer can stand
+const VIEWERS_KINDS: [Kind; 5] = [Idle, Look, Read, Tail, Follow];
+const ROLES: [&str; 2] = ["", "a viewer's "];
 
 impl View<'_> {
     fn taken_nodes(&self) -> u32 {
@@ -208,6 +213,12 @@ impl View<'_> {
         x.first.push((self.previous_of(levels[most]), self.level()));
         Some(x)
     }
+    // a kind that is no viewer's, with these words, beside which nothing in the record is wrong
+    fn other_kind(&self, kinds: &[u32], words: &[(usize, u32)]) -> Option<Spot> {
+        let mut x = spot(self.at(KIND), kinds, if words.is_empty() && self.kind() != Idle { &[1, 4] } else { &[] })?;
+        x.first = [(PIXEL, 0), (LEVEL, 0), (COUNT, 1), (HELD_NODE, 0), (HELD_LEVEL, 0)].iter().chain(words).map(|&(k, v)| (self.at(k), v)).collect();
+        Some(x)
+    }
     fn no_level_left(&self) -> Option<Spot> {
         let all = model::level_count(&self.settings) as u32;
         let mut x = spot(Place::LevelsTaken, &[all], &[all - 1])?;
@@ -216,11 +227,21 @@ impl View<'_> {
     }
 }
 
+// what is asked at a kind is asked of a viewer there too
 fn clause(name: &'static str, kinds: &[Kind], spot: fn(&View) -> Option<Spot>) -> Clause {
-    Clause { name, kinds: kinds.to_vec(), record: false, spot }
+    let viewers = kinds.iter().copied().filter(|kind| VIEWERS_KINDS.contains(kind)).collect();
+    Clause { name, kinds: [kinds.to_vec(), viewers], record: false, spot }
 }
 fn record(name: &'static str, kinds: &[Kind], spot: fn(&View) -> Option<Spot>) -> Clause {
-    Clause { name, kinds: kinds.to_vec(), record: true, spot }
+    Clause { record: true, ..clause(name, kinds, spot) }
+}
+// of viewers alone
+fn viewers(name: &'static str, kinds: &[Kind], spot: fn(&View) -> Option<Spot>) -> Clause {
+    Clause { name, kinds: [vec![], kinds.to_vec()], record: true, spot }
+}
+// of the other workers alone
+fn placing(name: &'static str, kinds: &[Kind], spot: fn(&View) -> Option<Spot>) -> Clause {
+    Clause { name, kinds: [kinds.to_vec(), vec![]], record: true, spot }
 }
 fn but(kinds: &[Kind], not: &[Kind]) -> Vec<Kind> {
     kinds.iter().copied().filter(|k| !not.contains(k)).collect()
@@ -239,7 +260,14 @@ fn clauses() -> Vec<Clause> {
     vec![
         // the record fits its layout
         record("kind above 22", &KINDS, |v| spot(v.at(KIND), &[23, MAX], &[v.word(KIND)])),
-        record("last answer above 3", &[Idle], |v| spot(v.at(ANSWER), &[4, MAX], &[0, 1, 2, 3])),
+        placing("last answer above 3", &[Idle], |v| spot(v.at(ANSWER), &[4, ABSENT, 6, MAX], &[0, 1, 2, 3])),
+        viewers("last answer not none, found or absent", &[Idle], |v| spot(v.at(ANSWER), &[1, 3, 4, 6, MAX], &[0, 2, ABSENT])),
+        // kinds at which another worker's record would fit
+        viewers("kind that takes or exchanges", &VIEWERS_KINDS, |v| v.other_kind(&[2, 3, 6, 7, 8, 9], &[])),
+        viewers("kind in a Move", &VIEWERS_KINDS, |v| {
+            v.other_kind(&[12, 13, 14, 15, 16, 17, 18, 19, 20, 21], &[(MOVES, 1), (home(0), 0), (child(0), 0), (remembered(0), 1), (node(0, 0), 0)])
+        }),
+        viewers("kind that gathers", &VIEWERS_KINDS, |v| v.other_kind(&[11, 22], &[(MOVES, 1), (home(0), 0), (child(0), 0), (remembered(0), 0)])),
         record("call's pixel", open, |v| spot(v.at(PIXEL), &[TOP + 1, MAX], &[0, TOP])),
         record("count", &counting, |v| spot(v.at(COUNT), &[0, v.limit() + 2, MAX], &[1, v.limit() + 1])),
         record("a Move in a search", searching, |v| spot(v.at(MOVES), &[1, v.last_depth(), MAX], &[0])),
@@ -377,8 +405,8 @@ fn clauses() -> Vec<Clause> {
 const OFTEN: u64 = 15;
 const IN_ONE: u64 = 3;
 
-// how often each clause was tried at each kind
-type Tried = Vec<[u64; 23]>;
+// how often each clause was tried at each kind, of viewers apart
+type Tried = Vec<[[u64; 23]; 2]>;
 
 // What each kind was tried with, how often at each width; clauses never reached there are given back.
 pub fn aimed(seed: u64, total: &mut Total) -> Compared<Vec<String>> {
@@ -386,12 +414,16 @@ pub fn aimed(seed: u64, total: &mut Total) -> Compared<Vec<String>> {
     let mut missing = vec![];
     println!("6 by clause and kind, so often at widths {WIDTHS:?}:");
     for (n, c) in clauses().iter().enumerate() {
-        let times = |kind: Kind| tried.iter().map(move |t| t[n][kind as usize]);
-        let kinds: Vec<String> = c.kinds.iter().map(|&k| format!("{k:?}{}", times(k).map(|t| format!(" {t}")).collect::<String>())).collect();
-        println!("6, {}: {}", c.name, kinds.join(", "));
-        for (kind, width) in c.kinds.iter().flat_map(|&k| WIDTHS.into_iter().zip(times(k)).filter(|x| x.1 == 0).map(move |x| (k, x.0))) {
-            missing.push(format!("6 of {kind:?} at width {width}: {}", c.name));
+        let mut kinds = vec![];
+        for (role, name) in ROLES.iter().enumerate() {
+            for &kind in &c.kinds[role] {
+                let times: Vec<u64> = tried.iter().map(|t| t[n][role][kind as usize]).collect();
+                kinds.push(format!("{name}{kind:?}{}", times.iter().map(|t| format!(" {t}")).collect::<String>()));
+                let never = WIDTHS.into_iter().zip(times).filter(|x| x.1 == 0);
+                missing.extend(never.map(|(width, _)| format!("6 of {name}{kind:?} at width {width}: {}", c.name)));
+            }
         }
+        println!("6, {}: {}", c.name, kinds.join(", "));
     }
     Ok(missing)
 }
@@ -399,10 +431,11 @@ pub fn aimed(seed: u64, total: &mut Total) -> Compared<Vec<String>> {
 // At one width and without a word: for the wrong versions too.
 pub fn one_width(width: u32, seed: u64, total: &mut Total) -> Compared<Tried> {
     let clauses = clauses();
-    let mut tried = vec![[0u64; 23]; clauses.len()];
+    let mut tried = vec![[[0; 23]; 2]; clauses.len()];
     let r = &mut Random::new(seed);
+    let enough = |kinds: &[Kind], times: &[u64; 23]| kinds.iter().all(|&k| times[k as usize] >= OFTEN);
     for n in 0..300 {
-        if clauses.iter().zip(&tried).all(|(c, t)| c.kinds.iter().all(|&k| t[k as usize] >= OFTEN)) {
+        if clauses.iter().zip(&tried).all(|(c, t)| c.kinds.iter().zip(t).all(|(kinds, times)| enough(kinds, times))) {
             break;
         }
         one_table(r, width, total, &clauses, &mut tried, &format!("six {seed} {width}, table {n}"))?;
@@ -411,17 +444,21 @@ pub fn one_width(width: u32, seed: u64, total: &mut Total) -> Compared<Tried> {
 }
 
 fn one_table(r: &mut Random, width: u32, total: &mut Total, clauses: &[Clause], tried: &mut Tried, what: &str) -> Compared<()> {
-    let s = settings(2 + r.below(4) as u32, r.pick(&[1, 1, 2, 2, 3, 8]), 6 + r.below(26) as u32, width);
+    let viewers = r.below(3) as u32;
+    let s = settings(2 + r.below(4) as u32 + viewers, r.pick(&[1, 1, 2, 2, 3, 8]), 6 + r.below(26) as u32, width);
+    let s = Settings { viewers, ..s };
     let mut p = opened(total, s, 0, 6, what)?;
     let spread = r.pick(&[2, 3, 4, 6]);
-    let mut here = vec![[0u64; 23]; clauses.len()];
+    let mut here = vec![[[0; 23]; 2]; clauses.len()];
     for _ in 0..700 {
         let i = r.below(s.workers as u64) as u32;
+        let role = s.views(i) as usize;
         for (c, clause) in clauses.iter().enumerate() {
             let k = p.table.areas.workers[RECORD * i as usize] as usize;
-            if tried[c][k] < OFTEN && here[c][k] < IN_ONE && clause.kinds.contains(&KINDS[k]) && check(&mut p, clause, i)? {
-                tried[c][k] += 1;
-                here[c][k] += 1;
+            let (tried, here): (&mut u64, &mut u64) = (&mut tried[c][role][k], &mut here[c][role][k]);
+            if *tried < OFTEN && *here < IN_ONE && clause.kinds[role].contains(&KINDS[k]) && check(&mut p, clause, i)? {
+                *tried += 1;
+                *here += 1;
             }
         }
         go_on(r, &mut p, i, spread)?;
@@ -443,7 +480,7 @@ fn check(p: &mut Pair, c: &Clause, i: u32) -> Compared<bool> {
             }
             p.put(x.place, value);
             let spoilt = (p.table.areas.clone(), p.table.settings);
-            for (op, wanted) in wanted(c, i, idle, outside) {
+            for (op, wanted) in wanted(c, &kept.1, i, idle, outside) {
                 let got = p.run(op.clone())?;
                 if !wanted.contains(&(got.number, got.turns)) {
                     return Err(p.difference(format!("{:?}, {}: {op:?} with {value} in {:?} gives {got:?}", v.kind(), c.name, x.place)));
@@ -457,7 +494,7 @@ fn check(p: &mut Pair, c: &Clause, i: u32) -> Compared<bool> {
 }
 
 // the numbers and turns done that each operation may give
-fn wanted(c: &Clause, i: u32, idle: bool, outside: bool) -> Vec<(Op, Vec<(u32, u32)>)> {
+fn wanted(c: &Clause, s: &Settings, i: u32, idle: bool, outside: bool) -> Vec<(Op, Vec<(u32, u32)>)> {
     let (turn, list): (&[u32], (u32, u32)) = match (outside, idle) {
         (true, _) => (&[6], (6, 0)),
         (false, true) => (&[8], (0, 0)),
@@ -471,7 +508,8 @@ fn wanted(c: &Clause, i: u32, idle: bool, outside: bool) -> Vec<(Op, Vec<(u32, u
     vec![
         (Op::Turn(i), turn.iter().map(|&n| (n, 0)).collect()),
         (Op::Turns(vec![i as u8], 1), vec![list]),
-        (Op::Start(i, 1, 2), vec![(start, 0)]),
+        (call(s, i, (1, 2)), vec![(start, 0)]),
+        (other_call(s, i, (1, 2)), vec![(17, 0)]),
         (Op::Last(i), vec![(last, 0)]),
     ]
 }

@@ -11,6 +11,7 @@ struct CSettings {
     nodes: u32,
     nodes_taken: u32,
     levels_taken: u32,
+    viewers: u32,
     width: u32,
 }
 
@@ -29,6 +30,7 @@ struct CReply {
 extern "C" {
     fn leafdrum_open(s: CSettings, n: *mut u32, nl: usize, l: *mut u32, ll: usize, w: *mut u32, wl: usize) -> CReply;
     fn leafdrum_start(s: CSettings, i: u32, row: u32, column: u32, n: *mut u32, nl: usize, l: *mut u32, ll: usize, w: *mut u32, wl: usize) -> CReply;
+    fn leafdrum_view(s: CSettings, i: u32, row: u32, column: u32, n: *mut u32, nl: usize, l: *mut u32, ll: usize, w: *mut u32, wl: usize) -> CReply;
     fn leafdrum_turn(s: CSettings, i: u32, n: *mut u32, nl: usize, l: *mut u32, ll: usize, w: *mut u32, wl: usize) -> CReply;
     fn leafdrum_turns(
         s: CSettings,
@@ -53,13 +55,14 @@ pub struct Table {
 }
 
 fn to_c(s: &Settings) -> CSettings {
-    CSettings { workers: s.workers, limit: s.limit, nodes: s.nodes, nodes_taken: s.nodes_taken, levels_taken: s.levels_taken, width: s.width }
+    let (workers, limit, nodes, viewers, width) = (s.workers, s.limit, s.nodes, s.viewers, s.width);
+    CSettings { workers, limit, nodes, nodes_taken: s.nodes_taken, levels_taken: s.levels_taken, viewers, width }
 }
 
 fn from_c(r: CReply) -> Reply {
     let s = r.settings;
-    let (workers, limit, nodes, width) = (s.workers, s.limit, s.nodes, s.width);
-    let settings = Settings { workers, limit, nodes, nodes_taken: s.nodes_taken, levels_taken: s.levels_taken, width };
+    let (workers, limit, nodes, viewers, width) = (s.workers, s.limit, s.nodes, s.viewers, s.width);
+    let settings = Settings { workers, limit, nodes, nodes_taken: s.nodes_taken, levels_taken: s.levels_taken, viewers, width };
     let exchanges = Exchanges { done: r.exchanges_done, failed: r.exchanges_failed };
     Reply { number: r.number, answer: r.answer, node: r.node, turns: r.turns, exchanges, settings }
 }
@@ -82,6 +85,7 @@ impl Table {
             match op {
                 Op::Open => leafdrum_open(s, n, nl, l, ll, w, wl),
                 Op::Start(i, row, column) => leafdrum_start(s, *i, *row, *column, n, nl, l, ll, w, wl),
+                Op::View(i, row, column) => leafdrum_view(s, *i, *row, *column, n, nl, l, ll, w, wl),
                 Op::Turn(i) => leafdrum_turn(s, *i, n, nl, l, ll, w, wl),
                 Op::Turns(list, limit) => leafdrum_turns(s, list.as_ptr(), list.len(), *limit, n, nl, l, ll, w, wl),
                 Op::Last(i) => leafdrum_last(s, *i, n, nl, l, ll, w, wl),

@@ -1,6 +1,6 @@
-// The text program coded apart, from document 01 and its readings, over the model of the table: input bytes to printed bytes. Nothing here is taken
-// from the Rattle code.
-use crate::model::{Areas, Model, Reply, Seen, Settings, FOUND, FULL, NEW};
+// The text program coded apart, from document 01, document 02's request 06 and their readings, over the model of the table: input bytes to printed bytes.
+// Nothing here is taken from the Rattle code.
+use crate::model::{Areas, Model, Reply, Roles, Seen, Settings, ABSENT, FOUND, FULL, NEW, ROLES};
 use crate::sequences::{self, sized};
 
 // What the document says of the text, as values: a wrong version is one value changed.
@@ -20,6 +20,16 @@ pub struct Rules {
     pub pixel_of_refused_start: bool,
     pub full_is_refused: bool,
     pub end_after_refused_first_line: bool,
+    // how many fields the first line may have
+    pub first_line: &'static [usize],
+    // the number of viewers where the first line does not have it
+    pub viewers: u32,
+    pub roles: Roles,
+    // a `v` line is carried out as a `c` line, a `c` line on a viewer as a `v` line
+    pub v_places: bool,
+    pub c_views: bool,
+    // what is printed for an end "absent"
+    pub absent: Option<&'static str>,
 }
 
 pub const DOCUMENT: Rules = Rules {
@@ -37,6 +47,12 @@ pub const DOCUMENT: Rules = Rules {
     pixel_of_refused_start: false,
     full_is_refused: false,
     end_after_refused_first_line: false,
+    first_line: &[4, 5],
+    viewers: 0,
+    roles: ROLES,
+    v_places: false,
+    c_views: false,
+    absent: Some("absent,-"),
 };
 
 // "The text program keeps width 3."
@@ -57,13 +73,15 @@ pub fn printed(rules: &Rules, input: &[u8]) -> Printed {
     let none = Areas { nodes: vec![], levels: vec![], workers: vec![] };
     let closed = Model::new(settings(0, 0, 0), none);
     let mut p = Program { rules, model: closed, calls: [(0, 0); 16], output: HEADER.to_string() };
+    p.model.roles = rules.roles;
     p.run(input);
     Printed { output: p.output.into_bytes(), seen: p.model.seen }
 }
 
 enum Line {
-    Sizes(u32, u32, u32),
+    Sizes(Settings),
     Start(u32, u32, u32),
+    View(u32, u32, u32),
     Turn(u32),
 }
 
@@ -76,7 +94,8 @@ fn number(rules: &Rules, field: &[u8]) -> Option<u32> {
     Some(field.iter().fold(0, |n, b| 10 * n + (b - b'0') as u32))
 }
 
-// "First line `s,workers,limit,nodes`, then `c,worker,row,column` starts and `t,worker` turns"
+// "First line `s,workers,limit,nodes`, then `c,worker,row,column` starts and `t,worker` turns"; "The program's first line may end in a fifth field with that
+// number; without it there are none. A viewer's call, program line `v,worker,row,column`"
 fn read(rules: &Rules, mut line: &[u8]) -> Option<Line> {
     if rules.return_is_left_out {
         line = line.strip_suffix(b"\r").unwrap_or(line);
@@ -84,8 +103,13 @@ fn read(rules: &Rules, mut line: &[u8]) -> Option<Line> {
     let fields: Vec<&[u8]> = line.split(|&b| b == b',').collect();
     let n = |k: usize| number(rules, fields[k]);
     match (fields[0], fields.len()) {
-        (b"s", 4) => Some(Line::Sizes(n(1)?, n(2)?, n(3)?)),
+        (b"s", count) if rules.first_line.contains(&count) => {
+            let viewers = if count == 4 { rules.viewers } else { n(4)? };
+            (5..count).try_for_each(|k| n(k).map(|_| ()))?;
+            Some(Line::Sizes(Settings { viewers, ..settings(n(1)?, n(2)?, n(3)?) }))
+        }
         (b"c", 4) => Some(Line::Start(n(1)?, n(2)?, n(3)?)),
+        (b"v", 4) => Some(Line::View(n(1)?, n(2)?, n(3)?)),
         (b"t", 2) => Some(Line::Turn(n(1)?)),
         _ => None,
     }
@@ -144,16 +168,17 @@ impl Program<'_> {
 
     fn first(&mut self, line: Option<Line>) -> Result<(), u32> {
         match line {
-            Some(Line::Sizes(workers, limit, nodes)) => self.open(settings(workers, limit, nodes)),
+            Some(Line::Sizes(s)) => self.open(s),
             _ => Err(10),
         }
     }
 
     fn further(&mut self, line: Option<Line>) -> Result<(), u32> {
         match line {
-            Some(Line::Start(i, row, column)) => self.start(i, row, column),
+            Some(Line::Start(i, row, column)) => self.start(self.rules.c_views && self.model.settings.views(i), i, row, column),
+            Some(Line::View(i, row, column)) => self.start(!self.rules.v_places, i, row, column),
             Some(Line::Turn(i)) => self.turn(i),
-            Some(Line::Sizes(workers, limit, nodes)) if self.rules.second_s_opens => self.open(settings(workers, limit, nodes)),
+            Some(Line::Sizes(s)) if self.rules.second_s_opens => self.open(s),
             _ => Err(10),
         }
     }
@@ -171,11 +196,11 @@ impl Program<'_> {
         done(self.model.open()).map(|_| ())
     }
 
-    fn start(&mut self, i: u32, row: u32, column: u32) -> Result<(), u32> {
+    fn start(&mut self, looks: bool, i: u32, row: u32, column: u32) -> Result<(), u32> {
         if self.rules.pixel_is_asked_first && (row > 4095 || column > 4095) {
             return Err(5);
         }
-        let reply = done(self.model.start(i, row, column));
+        let reply = done(if looks { self.model.view(i, row, column) } else { self.model.start(i, row, column) });
         if reply.is_ok() || self.rules.pixel_of_refused_start && i < 16 {
             self.calls[i as usize] = (row, column);
         }
@@ -193,6 +218,7 @@ impl Program<'_> {
         match reply.answer {
             NEW => self.row(i, &format!("new,{}", reply.node)),
             FOUND => self.row(i, &format!("found,{}", reply.node)),
+            ABSENT => self.rules.absent.into_iter().for_each(|absent| self.row(i, absent)),
             FULL => unreachable!("full comes with number 9"),
             _ => {}
         }

@@ -2,8 +2,22 @@
 use crate::model::Kind::*;
 use crate::runs::Ran;
 
-const KINDS: [&str; 12] =
-    ["new", "found", "full", "refused 1", "refused 4", "refused 5", "refused 7", "refused 8", "refused 10", "input too long", "end", "no end"];
+const KINDS: [&str; 14] = [
+    "new",
+    "found",
+    "full",
+    "absent",
+    "refused 1",
+    "refused 4",
+    "refused 5",
+    "refused 17",
+    "refused 7",
+    "refused 8",
+    "refused 10",
+    "input too long",
+    "end",
+    "no end",
+];
 
 #[derive(Default)]
 pub struct Lines {
@@ -15,6 +29,7 @@ pub struct Lines {
     moves: u64,
     inner_moves: u64,
     failed_exchanges: u64,
+    found_by_viewers: u64,
 }
 
 fn kind(line: &str) -> String {
@@ -23,7 +38,7 @@ fn kind(line: &str) -> String {
         ["refused", "0", "10"] => "input too long".to_string(),
         ["refused", _, number] => format!("refused {number}"),
         ["end", _, _] => "end".to_string(),
-        [_, _, _, "full", "-"] => "full".to_string(),
+        [_, _, _, answer @ ("full" | "absent"), "-"] => answer.to_string(),
         [_, _, _, answer, node] if node != "-" => answer.to_string(),
         _ => line.to_string(),
     }
@@ -55,12 +70,18 @@ impl Lines {
         self.moves += seen.went[Close as usize][ChainHead as usize];
         self.inner_moves += seen.went[SetClose as usize][ChainHead as usize];
         self.failed_exchanges += seen.failed.iter().flatten().sum::<u64>();
+        self.found_by_viewers += [Read, Follow].iter().map(|&k| seen.viewed[k as usize][Idle as usize]).sum::<u64>();
     }
 
     pub fn report(&self, name: &str) -> Vec<String> {
         let kinds: Vec<String> = KINDS.iter().zip(self.kinds).map(|(kind, n)| format!("{kind} {n}")).collect();
         println!("{} {name} without a difference, with lines: {}", self.texts, kinds.join(", "));
-        let turns = [("Moves", self.moves), ("Moves inside a Move", self.inner_moves), ("failed exchanges", self.failed_exchanges)];
+        let turns = [
+            ("Moves", self.moves),
+            ("Moves inside a Move", self.inner_moves),
+            ("failed exchanges", self.failed_exchanges),
+            ("found by viewers", self.found_by_viewers),
+        ];
         let reached: Vec<String> = turns.iter().map(|(what, n)| format!("{what} {n}")).collect();
         println!("  {} turns, {}", self.turns, reached.join(", "));
         let all = KINDS.into_iter().zip(self.kinds).chain(turns);

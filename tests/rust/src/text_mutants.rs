@@ -1,9 +1,10 @@
 // Wrong versions of the text program coded apart. The comparison must find each of them, among the written texts and among the random ones, so a
 // program that were wrong in the same way would be found.
+use crate::model::{Roles, ROLES};
 use crate::runs::Ran;
 use crate::text::{printed, Rules, DOCUMENT};
 
-const WRONG: [(&str, Rules); 18] = [
+const WRONG: [(&str, Rules); 32] = [
     ("a leading zero is accepted", Rules { leading_zero: true, ..DOCUMENT }),
     ("five digits are accepted", Rules { most_digits: 5, ..DOCUMENT }),
     ("three digits at most", Rules { most_digits: 3, ..DOCUMENT }),
@@ -22,21 +23,36 @@ const WRONG: [(&str, Rules); 18] = [
     ("a row has the pixel of a refused start", Rules { pixel_of_refused_start: true, ..DOCUMENT }),
     ("full is printed as refused", Rules { full_is_refused: true, ..DOCUMENT }),
     ("an end line after a refused first line", Rules { end_after_refused_first_line: true, ..DOCUMENT }),
+    ("a fifth field does not read", Rules { first_line: &[4], ..DOCUMENT }),
+    ("a first line without a fifth field does not read", Rules { first_line: &[5], ..DOCUMENT }),
+    ("a sixth field is left out", Rules { first_line: &[4, 5, 6], ..DOCUMENT }),
+    ("without a fifth field there is one viewer", Rules { viewers: 1, ..DOCUMENT }),
+    ("any number of viewers opens", Rules { roles: Roles { accepted: |_| true, ..ROLES }, ..DOCUMENT }),
+    ("the first workers are viewers", Rules { roles: Roles { views: |s, i| i < s.viewers, ..ROLES }, ..DOCUMENT }),
+    ("v is carried out as c", Rules { v_places: true, ..DOCUMENT }),
+    ("c on a viewer is carried out as v", Rules { c_views: true, ..DOCUMENT }),
+    ("v on another worker is carried out", Rules { roles: Roles { may_start: |looks, viewer| looks || !viewer, ..ROLES }, ..DOCUMENT }),
+    ("17 before 5", Rules { roles: Roles { asked_before: 5, ..ROLES }, ..DOCUMENT }),
+    ("17 after 7", Rules { roles: Roles { asked_before: 8, ..ROLES }, ..DOCUMENT }),
+    ("absent is printed with a node", Rules { absent: Some("absent,0"), ..DOCUMENT }),
+    ("absent is printed as full", Rules { absent: Some("full,-"), ..DOCUMENT }),
+    ("absent is not printed", Rules { absent: None, ..DOCUMENT }),
 ];
 
-fn found(rules: &Rules, all: &[Ran]) -> usize {
-    all.iter().filter(|ran| printed(rules, &ran.case.input).output != ran.printed.output).count()
+// how many texts there were up to the first that finds it
+fn found(rules: &Rules, all: &[Ran]) -> Option<usize> {
+    all.iter().position(|ran| printed(rules, &ran.case.input).output != ran.printed.output).map(|k| k + 1)
 }
 
 // gives the names of those never found
 pub fn missed(written: &[Ran], random: &[Ran]) -> Vec<String> {
     let mut missed = vec![];
     for (name, rules) in &WRONG {
-        let (w, r) = (found(rules, written), found(rules, random));
-        println!("wrong version found by {w} written and {r} random texts: {name}");
-        if w == 0 || r == 0 {
-            missed.push(format!("wrong version never found: {name}"));
+        match (found(rules, written), found(rules, random)) {
+            (Some(w), Some(r)) => println!("wrong version found by written text {w} and random text {r}: {name}"),
+            (w, r) => missed.push(format!("wrong version found by written text {w:?} and random text {r:?}: {name}")),
         }
     }
+    println!("{} of {} wrong text programs found", WRONG.len() - missed.len(), WRONG.len());
     missed
 }

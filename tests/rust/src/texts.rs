@@ -1,7 +1,7 @@
 // Random texts, each from a seed of its own: tables and turn orders in which chains close and Moves happen, half of the texts damaged.
 use crate::model::{Model, Reply, Settings, OPEN};
 use crate::random::Random;
-use crate::sequences::{clustered, sized};
+use crate::sequences::{clustered, sized, some_viewers};
 use crate::text::settings;
 use crate::words::{KIND, RECORD};
 
@@ -34,11 +34,23 @@ impl Writer {
     pub fn new(s: Settings) -> Writer {
         let mut model = Model::new(s, sized(&s, 0, 0));
         model.open();
-        Writer { model, text: format!("s,{},{},{}\n", s.workers, s.limit, s.nodes) }
+        let viewers = if s.viewers > 0 { format!(",{}", s.viewers) } else { String::new() };
+        Writer { model, text: format!("s,{},{},{}{viewers}\n", s.workers, s.limit, s.nodes) }
     }
+    // a call of worker i of the sort that it has, or of the other one
     pub fn start(&mut self, i: u32, row: u32, column: u32) {
-        self.model.start(i, row, column);
-        self.text += &format!("c,{i},{row},{column}\n");
+        self.call(self.model.settings.views(i), i, row, column);
+    }
+    fn other(&mut self, i: u32, row: u32, column: u32) {
+        self.call(!self.model.settings.views(i), i, row, column);
+    }
+    fn call(&mut self, looks: bool, i: u32, row: u32, column: u32) {
+        if looks {
+            self.model.view(i, row, column);
+        } else {
+            self.model.start(i, row, column);
+        }
+        self.text += &format!("{},{i},{row},{column}\n", if looks { 'v' } else { 'c' });
     }
     pub fn turn(&mut self, i: u32) -> Reply {
         self.text += &format!("t,{i}\n");
@@ -59,25 +71,27 @@ fn sound(r: &mut Random) -> Vec<u8> {
     let limit = r.pick(&[1, 1, 1, 2, 2, 3, 4, 5, 6, 7, 8]);
     let nodes = r.pick(&[2, 16, 64, 128, 128]);
     let s = settings(1 + r.below(16) as u32, limit, 1 + r.below(nodes) as u32);
-    let mut w = Writer::new(s);
+    let mut w = Writer::new(some_viewers(r, s));
     let spread = r.pick(&[2, 3, 4, 6, 8, 12, 24]);
     let most = r.pick(&[1, 10, 100, 400, 400, 1500]);
     for _ in 0..r.below(most) {
         line(r, &mut w, spread);
     }
-    if r.below(20) == 0 {
+    if r.below(12) == 0 {
         other_sizes(r, &mut w);
     }
     w.text.into_bytes()
 }
 
-// one size near its bound
+// one size near its bound, or a field too many
 fn other_sizes(r: &mut Random, w: &mut Writer) {
     let s = w.model.settings;
-    let first = match r.below(3) {
+    let first = match r.below(5) {
         0 => format!("s,{},{},{}", near(r, 17), s.limit, s.nodes),
         1 => format!("s,{},{},{}", s.workers, near(r, 9), s.nodes),
-        _ => format!("s,{},{},{}", s.workers, s.limit, near(r, 129)),
+        2 => format!("s,{},{},{}", s.workers, s.limit, near(r, 129)),
+        3 => format!("s,{},{},{},{}", s.workers, s.limit, s.nodes, near(r, s.workers + 1)),
+        _ => format!("s,{},{},{},{},{}", s.workers, s.limit, s.nodes, s.viewers, near(r, 1)),
     };
     let end = w.text.find('\n').unwrap();
     w.text.replace_range(..end, &first);
@@ -94,6 +108,8 @@ fn line(r: &mut Random, w: &mut Writer, spread: u64) {
         3 => w.start(near(r, workers), near(r, 4096), near(r, 4096)),
         4 => drop(w.turn(near(r, workers))),
         5 => w.start(i, row, column),
+        6 => w.other(i, row, column),
+        7 => w.other(near(r, workers), near(r, 4096), column),
         _ if w.idle(i) => w.start(i, row, column),
         _ => drop(w.turn(i)),
     }
@@ -102,7 +118,7 @@ fn line(r: &mut Random, w: &mut Writer, spread: u64) {
 fn some_byte(r: &mut Random) -> u8 {
     match r.below(3) {
         0 => r.next() as u8,
-        _ => r.pick(b"0123456789,,,sct\n\n\r \t\0-+.\"/:SCT"),
+        _ => r.pick(b"0123456789,,,sctv\n\n\r \t\0-+.\"/:SCTV"),
     }
 }
 
@@ -153,7 +169,7 @@ fn damage_line(r: &mut Random, text: &mut Vec<u8>, at: usize) {
         0 => drop(text.drain(at..end)),
         1 => text.truncate(at),
         2 => drop(text.drain(end..after)),
-        3 => drop(text.splice(after..after, r.pick(&["\n", "s,1,1,1\n", "end,0,1\n", "x\n"]).bytes())),
+        3 => drop(text.splice(after..after, r.pick(&["\n", "s,1,1,1\n", "s,1,1,1,1\n", "end,0,1\n", "x\n"]).bytes())),
         _ => text.extend_from_within(at..end),
     }
 }
@@ -161,7 +177,7 @@ fn damage_line(r: &mut Random, text: &mut Vec<u8>, at: usize) {
 // a few bytes below or above the longest input, filled up with lines or with one line
 fn lengthen(r: &mut Random, text: &mut Vec<u8>) {
     let length = 65_534 + r.below(5) as usize;
-    let filler = r.pick(&["\n", "t,0\n", "c,0,0,0\n", "0", "\r\n"]);
+    let filler = r.pick(&["\n", "t,0\n", "c,0,0,0\n", "v,0,0,0\n", "0", "\r\n"]);
     while text.len() < length {
         text.extend(filler.bytes().take(length - text.len()));
     }

@@ -35,6 +35,7 @@ pub enum Place {
     Levels(usize),
     Workers(usize),
     LevelsTaken,
+    Viewers,
 }
 
 impl Place {
@@ -44,6 +45,7 @@ impl Place {
             Place::Levels(k) => &mut areas.levels[k],
             Place::Workers(k) => &mut areas.workers[k],
             Place::LevelsTaken => &mut settings.levels_taken,
+            Place::Viewers => &mut settings.viewers,
         }
     }
 }
@@ -121,6 +123,7 @@ impl View<'_> {
             Place::Levels(k) => self.areas.levels[k],
             Place::Workers(k) => self.areas.workers[k],
             Place::LevelsTaken => self.settings.levels_taken,
+            Place::Viewers => self.settings.viewers,
         }
     }
 

@@ -20,6 +20,9 @@ enum-told-2 c = search needs
 enum-told-3 : tie.Need-enum-told-3
 enum-told-3 c = search needs
 
+enum-told-4 : tie.Need-enum-told-4
+enum-told-4 c = search needs
+
 returns : tie.Need-returns
 unfolding answerNode
 returns c = search needs
@@ -40,6 +43,10 @@ returns-5 : tie.Need-returns-5
 unfolding answerNode
 returns-5 c = search needs
 
+returns-6 : tie.Need-returns-6
+unfolding answerNode
+returns-6 c = search needs
+
 pub answer-node-spec : {M : Type 1} → statement M
 answer-node-spec =
     tie.close
@@ -49,8 +56,10 @@ answer-node-spec =
     enum-known-a-2
     enum-told-2
     enum-told-3
+    enum-told-4
     returns
     returns-2
     returns-3
     returns-4
-    returns-5)
+    returns-5
+    returns-6)

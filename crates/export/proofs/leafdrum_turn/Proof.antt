@@ -4,7 +4,7 @@ use mathlib.Core.Path.{refl}
 use Rattle.words.proofs.Choice.{via}
 use Rattle.settings.specs.Cut.{counted}
 use Rattle.lists.proofs.Ways.{turn-refused}
-use Rattle.lists.proofs.One.{one-three, one-below, one-six, one-told, one-open, same-counted}
+use Rattle.lists.proofs.One.{one-three, one-below, one-sized, alone-open, view-six, view-told, one-six, one-told, one-open, same-counted}
 use Rattle.export.proofs.Exported.{export-steps}
 use borrow.Author.Needs.{needs}
 use Rattle.export.proofs.leafdrum_turn.Statement.{statement}
@@ -29,16 +29,13 @@ returns : tie.Need-returns
 returns c = let b = c .before .before in
     export-steps (c .ended-refused .ensures) (turn-refused _ _ _ _ _ _ refl (b .refused-turn .ensures) (c .before .if1 .left))
 
-array-share-prefix-none : tie.Need-array-share-prefix-none
-array-share-prefix-none c = search needs
+views-requires : tie.Need-views-requires
+views-requires c κs = search needs
 
-slice-aggregate-run-list : tie.Need-slice-aggregate-run-list
-slice-aggregate-run-list c = search needs
-
-run-list-requires : tie.Need-run-list-requires
-run-list-requires c κs = let b = c .before .before .before .before in
+view-here-requires : tie.Need-view-here-requires
+view-here-requires c κs = let b = c .before .before .before .before .before in
     let o = via (b .before .refused-turn .ensures) (b .if1 .taken) in
-    (one-three _ _ _ _ _ o, one-below _ _ _ _ _ o refl)
+    (one-sized _ _ _ _ _ o, alone-open _ _ _ _ _ o)
 
 ended-refused-requires-2 : tie.Need-ended-refused-requires-2
 ended-refused-requires-2 c κs = search needs
@@ -53,16 +50,11 @@ same-length-6 : tie.Need-same-length-6
 same-length-6 c = search needs
 
 returns-2 : tie.Need-returns-2
-returns-2 c = let r = c .before .before .before .before .before .before .before .before .before in
-    let b = r .before .before .before .before .before in
+returns-2 c = let h = c .before .before .before .before .before in
+    let v = h .before .before .before .before .before in
+    let b = v .before in
     let o = via (b .before .refused-turn .ensures) (b .if1 .taken) in
-    export-steps (c .ended-refused2 .ensures) (one-six _ _ _ _ _ o _ (r .run-list .ensures) refl refl (c .before .if2 .taken))
-
-same-counts-requires : tie.Need-same-counts-requires
-same-counts-requires c κs = search needs
-
-idle-at-requires : tie.Need-idle-at-requires
-idle-at-requires c κs = search needs
+    export-steps (c .ended-refused2 .ensures) (view-six _ _ _ _ _ o _ (h .view-here .ensures .0) (v .views .ensures) (h .before .before .before .before .if2 .taken) refl (c .before .if3 .taken))
 
 ended-told-requires : tie.Need-ended-told-requires
 ended-told-requires c κs = search needs
@@ -77,14 +69,25 @@ same-length-9 : tie.Need-same-length-9
 same-length-9 c = search needs
 
 returns-3 : tie.Need-returns-3
-returns-3 c = let r = c .before .before .before .before .before .before .before .before .before .before .before .before .before .before .before in
-    let b = r .before .before .before .before .before in
+returns-3 c = let h = c .before .before .before .before .before .before in
+    let v = h .before .before .before .before .before in
+    let b = v .before in
     let o = via (b .before .refused-turn .ensures) (b .if1 .taken) in
-    let e = c .before .before .before .before .before in
-    export-steps (c .ended-told .ensures) (one-told _ _ _ _ _ o _ (r .run-list .ensures) refl refl refl (same-counted _ (r .run-list .result) (e .before .same-counts .ensures) (e .if3 .taken)) (e .before .before .if2 .left))
+    export-steps (c .ended-told .ensures) (view-told _ _ _ _ _ o _ (h .view-here .ensures .0) (v .views .ensures) (h .before .before .before .before .if2 .taken) refl refl (h .view-here .ensures .1) (c .before .before .if3 .left))
 
-ended-open-requires : tie.Need-ended-open-requires
-ended-open-requires c κs = search needs
+array-share-prefix-none : tie.Need-array-share-prefix-none
+array-share-prefix-none c = search needs
+
+slice-aggregate-run-list : tie.Need-slice-aggregate-run-list
+slice-aggregate-run-list c = search needs
+
+run-list-requires : tie.Need-run-list-requires
+run-list-requires c κs = let b = c .before .before .before .before .before .before in
+    let o = via (b .before .refused-turn .ensures) (b .if1 .taken) in
+    (one-three _ _ _ _ _ o, one-below _ _ _ _ _ o refl)
+
+ended-refused-requires-3 : tie.Need-ended-refused-requires-3
+ended-refused-requires-3 c κs = search needs
 
 same-length-10 : tie.Need-same-length-10
 same-length-10 c = search needs
@@ -96,11 +99,16 @@ same-length-12 : tie.Need-same-length-12
 same-length-12 c = search needs
 
 returns-4 : tie.Need-returns-4
-returns-4 c = let r = c .before .before .before .before .before .before .before .before .before .before .before .before .before .before in
-    let b = r .before .before .before .before .before in
+returns-4 c = let r = c .before .before .before .before .before .before .before .before .before in
+    let b = r .before .before .before .before .before .before .before in
     let o = via (b .before .refused-turn .ensures) (b .if1 .taken) in
-    let e = c .before .before .before .before in
-    export-steps (c .ended-open .ensures) (one-open _ _ _ _ _ o _ (r .run-list .ensures) refl refl (c .before .before .idle-at .ensures) (c .before .if4 .left) (same-counted _ (r .run-list .result) (e .before .same-counts .ensures) (e .if3 .taken)) (e .before .before .if2 .left))
+    export-steps (c .ended-refused3 .ensures) (one-six _ _ _ _ _ o _ (r .run-list .ensures) refl refl (c .before .if4 .taken))
+
+same-counts-requires : tie.Need-same-counts-requires
+same-counts-requires c κs = search needs
+
+idle-at-requires : tie.Need-idle-at-requires
+idle-at-requires c κs = search needs
 
 ended-told-requires-2 : tie.Need-ended-told-requires-2
 ended-told-requires-2 c κs = search needs
@@ -115,11 +123,49 @@ same-length-15 : tie.Need-same-length-15
 same-length-15 c = search needs
 
 returns-5 : tie.Need-returns-5
-unfolding counted
-returns-5 c = let r = c .before .before .before .before .before .before .before .before .before .before .before .before in
-    let b = r .before .before .before .before .before in
+returns-5 c = let r = c .before .before .before .before .before .before .before .before .before .before .before .before .before .before .before in
+    let b = r .before .before .before .before .before .before .before in
     let o = via (b .before .refused-turn .ensures) (b .if1 .taken) in
-    export-steps (c .ended-told2 .ensures) (one-told _ _ _ _ _ o _ (r .run-list .ensures) refl refl refl refl (c .before .before .before .before .if2 .left))
+    let e = c .before .before .before .before .before in
+    export-steps (c .ended-told2 .ensures) (one-told _ _ _ _ _ o _ (r .run-list .ensures) refl refl refl (same-counted _ (r .run-list .result) (e .before .same-counts .ensures) (e .if5 .taken)) (e .before .before .if4 .left))
+
+ended-open-requires : tie.Need-ended-open-requires
+ended-open-requires c κs = search needs
+
+same-length-16 : tie.Need-same-length-16
+same-length-16 c = search needs
+
+same-length-17 : tie.Need-same-length-17
+same-length-17 c = search needs
+
+same-length-18 : tie.Need-same-length-18
+same-length-18 c = search needs
+
+returns-6 : tie.Need-returns-6
+returns-6 c = let r = c .before .before .before .before .before .before .before .before .before .before .before .before .before .before in
+    let b = r .before .before .before .before .before .before .before in
+    let o = via (b .before .refused-turn .ensures) (b .if1 .taken) in
+    let e = c .before .before .before .before in
+    export-steps (c .ended-open .ensures) (one-open _ _ _ _ _ o _ (r .run-list .ensures) refl refl (c .before .before .idle-at .ensures) (c .before .if6 .left) (same-counted _ (r .run-list .result) (e .before .same-counts .ensures) (e .if5 .taken)) (e .before .before .if4 .left))
+
+ended-told-requires-3 : tie.Need-ended-told-requires-3
+ended-told-requires-3 c κs = search needs
+
+same-length-19 : tie.Need-same-length-19
+same-length-19 c = search needs
+
+same-length-20 : tie.Need-same-length-20
+same-length-20 c = search needs
+
+same-length-21 : tie.Need-same-length-21
+same-length-21 c = search needs
+
+returns-7 : tie.Need-returns-7
+unfolding counted
+returns-7 c = let r = c .before .before .before .before .before .before .before .before .before .before .before .before in
+    let b = r .before .before .before .before .before .before .before in
+    let o = via (b .before .refused-turn .ensures) (b .if1 .taken) in
+    export-steps (c .ended-told3 .ensures) (one-told _ _ _ _ _ o _ (r .run-list .ensures) refl refl refl refl (c .before .before .before .before .if4 .left))
 
 pub leafdrum-turn-spec : {M : Type 1} → statement M
 leafdrum-turn-spec =
@@ -131,28 +177,40 @@ leafdrum-turn-spec =
     same-length-2
     same-length-3
     returns
-    array-share-prefix-none
-    slice-aggregate-run-list
-    run-list-requires
+    views-requires
+    view-here-requires
     ended-refused-requires-2
     same-length-4
     same-length-5
     same-length-6
     returns-2
-    same-counts-requires
-    idle-at-requires
     ended-told-requires
     same-length-7
     same-length-8
     same-length-9
     returns-3
-    ended-open-requires
+    array-share-prefix-none
+    slice-aggregate-run-list
+    run-list-requires
+    ended-refused-requires-3
     same-length-10
     same-length-11
     same-length-12
     returns-4
+    same-counts-requires
+    idle-at-requires
     ended-told-requires-2
     same-length-13
     same-length-14
     same-length-15
-    returns-5)
+    returns-5
+    ended-open-requires
+    same-length-16
+    same-length-17
+    same-length-18
+    returns-6
+    ended-told-requires-3
+    same-length-19
+    same-length-20
+    same-length-21
+    returns-7)

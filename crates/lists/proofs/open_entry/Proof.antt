@@ -13,7 +13,7 @@ open-here-requires : tie.Need-open-here-requires
 open-here-requires c κs = let w = c .before .before .before in
     let b = w .before .before .before .before in
     let p = b .pre in
-    (entry-sized _ (b .args .t) (b .args .i) _ _ _ (w .with-counts .ensures) (p .1 .1 .1 .0), (entry-inside _ (b .args .t) _ _ _ _ (p .1 .1 .1 .0) (p .1 .1 .1 .1 .0), p .1 .1 .1 .1 .1))
+    (entry-sized _ (b .args .t) (b .args .i) _ _ _ (w .with-counts .ensures) (p .1 .1 .1 .0), (entry-inside _ (b .args .t) _ _ _ _ (p .1 .1 .1 .0) (p .1 .1 .1 .1 .0), p .1 .1 .1 .1 .1 .0))
 
 tallied-requires : tie.Need-tallied-requires
 tallied-requires c κs = search needs
@@ -31,7 +31,7 @@ returns : tie.Need-returns
 returns c = let o = c .before .before .before .before .before .before .before in
     let w = o .before .before .before .before in
     let p = w .before .before .before .before .pre in
-    entry-open _ _ _ _ _ _ _ (p .1 .1 .0) (p .0) (p .1 .1 .1 .0) (p .1 .1 .1 .1 .0) (c .tallied .ensures) (o .open-here .ensures) (w .with-counts .ensures) refl (p .1 .1 .1 .1 .1)
+    entry-open _ _ _ _ _ _ _ (p .1 .1 .0) (p .0) (p .1 .1 .1 .0) (p .1 .1 .1 .1 .0) (c .tallied .ensures) (o .open-here .ensures) (w .with-counts .ensures) refl (p .1 .1 .1 .1 .1 .1) (p .1 .1 .1 .1 .1 .0)
 
 pub open-entry-spec : {M : Type 1} → statement M
 open-entry-spec =

@@ -11,6 +11,9 @@ refused-worker-requires c κs = search needs
 idle-at-requires : tie.Need-idle-at-requires
 idle-at-requires c κs = search needs
 
+views-requires : tie.Need-views-requires
+views-requires c κs = search needs
+
 answer-at-requires : tie.Need-answer-at-requires
 answer-at-requires c κs = search needs
 
@@ -32,6 +35,7 @@ refused-turn-spec =
     (tie.spec
     refused-worker-requires
     idle-at-requires
+    views-requires
     answer-at-requires
     idle-number-requires
     returns

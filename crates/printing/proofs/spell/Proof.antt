@@ -47,14 +47,20 @@ put-full-requires c κs = search needs
 enum-known-p-4 : tie.Need-enum-known-p-4
 enum-known-p-4 c = search needs
 
+put-absent-requires : tie.Need-put-absent-requires
+put-absent-requires c κs = search needs
+
+enum-known-p-5 : tie.Need-enum-known-p-5
+enum-known-p-5 c = search needs
+
 slice-aggregate-put-pair : tie.Need-slice-aggregate-put-pair
 slice-aggregate-put-pair c = search needs
 
 put-pair-requires : tie.Need-put-pair-requires
 put-pair-requires c κs = search needs
 
-enum-known-p-5 : tie.Need-enum-known-p-5
-enum-known-p-5 c = search needs
+enum-known-p-6 : tie.Need-enum-known-p-6
+enum-known-p-6 c = search needs
 
 slice-aggregate-put-pair-2 : tie.Need-slice-aggregate-put-pair-2
 slice-aggregate-put-pair-2 c = search needs
@@ -82,12 +88,15 @@ returns-5 : tie.Need-returns-5
 returns-5 c = told (c .before .before .before .p3 .given .1) (c .put-full .ensures)
 
 returns-6 : tie.Need-returns-6
-unfolding bytesOf ascii
-returns-6 c = told (c .before .before .before .before .p4 .given .1) (c .put-pair .ensures)
+returns-6 c = told (c .before .before .before .p4 .given .1) (c .put-absent .ensures)
 
 returns-7 : tie.Need-returns-7
 unfolding bytesOf ascii
-returns-7 c = told (c .before .before .before .before .p5 .given .1) (c .put-pair2 .ensures)
+returns-7 c = told (c .before .before .before .before .p5 .given .1) (c .put-pair .ensures)
+
+returns-8 : tie.Need-returns-8
+unfolding bytesOf ascii
+returns-8 c = told (c .before .before .before .before .p6 .given .1) (c .put-pair2 .ensures)
 
 pub spell-spec : {M : Type 1} → statement M
 spell-spec =
@@ -106,9 +115,11 @@ spell-spec =
     enum-known-p-3
     put-full-requires
     enum-known-p-4
+    put-absent-requires
+    enum-known-p-5
     slice-aggregate-put-pair
     put-pair-requires
-    enum-known-p-5
+    enum-known-p-6
     slice-aggregate-put-pair-2
     put-pair-requires-2
     returns
@@ -117,4 +128,5 @@ spell-spec =
     returns-4
     returns-5
     returns-6
-    returns-7)
+    returns-7
+    returns-8)

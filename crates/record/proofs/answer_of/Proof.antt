@@ -18,7 +18,11 @@ unfolding answerOf
 returns-3 c = simp (c .match .keys3)
 
 returns-4 : tie.Need-returns-4
-returns-4 c = answer-rest _ _ (c .match .rest .0 .0 .1) (c .match .rest .0 .1) (c .match .rest .1)
+unfolding answerOf
+returns-4 c = simp (c .match .keys4)
+
+returns-5 : tie.Need-returns-5
+returns-5 c = answer-rest _ _ (c .match .rest .0 .0 .0 .1) (c .match .rest .0 .0 .1) (c .match .rest .0 .1) (c .match .rest .1)
 
 pub answer-of-spec : {M : Type 1} → statement M
-answer-of-spec = tie.close (tie.spec returns returns-2 returns-3 returns-4)
+answer-of-spec = tie.close (tie.spec returns returns-2 returns-3 returns-4 returns-5)

@@ -1,7 +1,7 @@
 -- `record::fits` meets its contract.
 -- Relies on Tests for the ways through it.
 use Rattle.words.proofs.Auto.{tests}
-use Rattle.record.proofs.Tests.{fits-idle, kind-open, kind-low, kind-high}
+use Rattle.record.proofs.Tests.{fits-idle, fits-role, fits-no-role, kind-open}
 use borrow.Author.Needs.{needs}
 use Rattle.record.proofs.fits.Statement.{statement}
 use Rattle.record.proofs.fits.Tie as tie
@@ -12,20 +12,20 @@ kind-no-requires c κs = search needs
 idle-fits-requires : tie.Need-idle-fits-requires
 idle-fits-requires c κs = search needs
 
-search-fits-requires : tie.Need-search-fits-requires
-search-fits-requires c κs = search (needs, kind-open, kind-low)
+role-fits-requires : tie.Need-role-fits-requires
+role-fits-requires c κs = search needs
 
-move-fits-requires : tie.Need-move-fits-requires
-move-fits-requires c κs = search (needs, kind-high)
+open-fits-requires : tie.Need-open-fits-requires
+open-fits-requires c κs = search (needs, kind-open)
 
 returns : tie.Need-returns
 returns c = search (tests, fits-idle)
 
 returns-2 : tie.Need-returns-2
-returns-2 c = search needs
+returns-2 c = search (needs, fits-role)
 
 returns-3 : tie.Need-returns-3
-returns-3 c = search needs
+returns-3 c = search (needs, fits-no-role)
 
 pub fits-spec : {M : Type 1} → statement M
 fits-spec =
@@ -33,8 +33,8 @@ fits-spec =
     (tie.spec
     kind-no-requires
     idle-fits-requires
-    search-fits-requires
-    move-fits-requires
+    role-fits-requires
+    open-fits-requires
     returns
     returns-2
     returns-3)

@@ -1,11 +1,22 @@
 -- `record::idle_fits` meets its contract.
--- Relies on nothing.
+-- Relies on Tests for the ways through it.
+use Rattle.words.proofs.Auto.{tests}
+use Rattle.record.proofs.Tests.{told-on, told-off}
 use borrow.Author.Needs.{needs}
 use Rattle.record.proofs.idle_fits.Statement.{statement}
 use Rattle.record.proofs.idle_fits.Tie as tie
 
+viewer-told-requires : tie.Need-viewer-told-requires
+viewer-told-requires c κs = search needs
+
+le-requires : tie.Need-le-requires
+le-requires c κs = search needs
+
 returns : tie.Need-returns
-returns c = search needs
+returns c = search (tests, told-on)
+
+returns-2 : tie.Need-returns-2
+returns-2 c = search (tests, told-off)
 
 pub idle-fits-spec : {M : Type 1} → statement M
-idle-fits-spec = tie.close (tie.spec returns)
+idle-fits-spec = tie.close (tie.spec viewer-told-requires le-requires returns returns-2)

@@ -21,6 +21,9 @@ enum-told-2 c = search needs
 enum-told-3 : tie.Need-enum-told-3
 enum-told-3 c = search needs
 
+enum-told-4 : tie.Need-enum-told-4
+enum-told-4 c = search needs
+
 returns : tie.Need-returns
 unfolding turnPrints
 returns c = search (needs, prints-by)
@@ -41,6 +44,10 @@ returns-5 : tie.Need-returns-5
 unfolding turnPrints
 returns-5 c = search (needs, prints-by)
 
+returns-6 : tie.Need-returns-6
+unfolding turnPrints
+returns-6 c = search (needs, prints-by)
+
 pub turn-prints-spec : {M : Type 1} → statement M
 turn-prints-spec =
     tie.close
@@ -50,8 +57,10 @@ turn-prints-spec =
     enum-known-a-2
     enum-told-2
     enum-told-3
+    enum-told-4
     returns
     returns-2
     returns-3
     returns-4
-    returns-5)
+    returns-5
+    returns-6)

@@ -14,6 +14,9 @@ refused-worker-requires c κs = search needs
 load-requires : tie.Need-load-requires
 load-requires c κs = search needs
 
+views-requires : tie.Need-views-requires
+views-requires c κs = search needs
+
 fits-requires : tie.Need-fits-requires
 fits-requires c κs = search (tests, four-wide, four-limit)
 
@@ -27,4 +30,4 @@ returns-3 : tie.Need-returns-3
 returns-3 c = search (tests, last-four)
 
 pub refused-last-spec : {M : Type 1} → statement M
-refused-last-spec = tie.close (tie.spec refused-worker-requires load-requires fits-requires returns returns-2 returns-3)
+refused-last-spec = tie.close (tie.spec refused-worker-requires load-requires views-requires fits-requires returns returns-2 returns-3)

@@ -13,11 +13,17 @@ within-requires-2 c κs = search needs
 within-requires-3 : tie.Need-within-requires-3
 within-requires-3 c κs = search needs
 
+le-requires : tie.Need-le-requires
+le-requires c κs = search needs
+
 and-requires : tie.Need-and-requires
 and-requires c κs = search needs
 
 and-requires-2 : tie.Need-and-requires-2
 and-requires-2 c κs = search needs
+
+and-requires-3 : tie.Need-and-requires-3
+and-requires-3 c κs = search needs
 
 returns : tie.Need-returns
 returns c = cc
@@ -29,6 +35,8 @@ sizes-in-range-spec =
     within-requires
     within-requires-2
     within-requires-3
+    le-requires
     and-requires
     and-requires-2
+    and-requires-3
     returns)
