@@ -26,8 +26,12 @@ enum { LEAFDRUM_WIDTH_2 = 2, LEAFDRUM_WIDTH_3 = 3, LEAFDRUM_WIDTH_4 = 4, LEAFDRU
 /* answers */
 enum { LEAFDRUM_NONE = 0, LEAFDRUM_NEW = 1, LEAFDRUM_FOUND = 2, LEAFDRUM_FULL = 3, LEAFDRUM_OPEN = 4, LEAFDRUM_ABSENT = 5 };
 
+/* refusals; README.md, "Embedding", says what each means */
+enum { LEAFDRUM_REFUSED_SETTINGS = 1, LEAFDRUM_REFUSED_AREA = 2, LEAFDRUM_REFUSED_COUNTS = 3, LEAFDRUM_REFUSED_WORKER = 4, LEAFDRUM_REFUSED_PIXEL = 5,
+       LEAFDRUM_REFUSED_MEMORY = 6, LEAFDRUM_REFUSED_BUSY = 7, LEAFDRUM_REFUSED_IDLE = 8, LEAFDRUM_REFUSED_FULL = 9, LEAFDRUM_REFUSED_SORT = 17 };
+
 typedef struct {
-    uint32_t number;           /* 0: carried out; else the number of the refusal, 1 to 9 or 17 */
+    uint32_t number;           /* 0: carried out; else one of the refusals above */
     uint32_t answer;           /* one of the answers above; 0 for a refusal other than "full", an opening and a list */
     uint32_t node;             /* the node of "new" and "found", else 0 */
     uint32_t turns;            /* turns done by leafdrum_turns, else 0 */
@@ -46,7 +50,7 @@ typedef struct {
 #define LEAFDRUM_WORKER_AREA(workers) (LEAFDRUM_WORKER_WORDS * (workers))
 #define LEAFDRUM_AREAS uint32_t *nodes, size_t node_words, uint32_t *levels, size_t level_words, uint32_t *workers, size_t worker_words
 
-/* Refusals are named in the order in which they are asked; the first that applies is given. README.md, "Embedding", says what each means. */
+/* Refusals are named in the order in which they are asked; the first that applies is given. */
 
 /* Begins anew, whatever the areas hold. Refusals 1, 2. */
 leafdrum_reply leafdrum_open(leafdrum_settings settings, LEAFDRUM_AREAS);

@@ -290,6 +290,24 @@ static void answers(void) {
     same("its node", r.node, 0);
 }
 
+/* Each refusal's constant against a refusal that it names. */
+static void refusals(void) {
+    leafdrum_settings s = leafdrum_open(with_viewers(1, with(3, 2, 1, 0, 0)), AREAS).settings;
+    same("refusal of width 5", leafdrum_open(wide(3, 2, 11, 0, 0, 5), AREAS).number, LEAFDRUM_REFUSED_SETTINGS);
+    same("refusal of an area without words", leafdrum_open(s, nodes, 0, levels, LEVEL_WORDS, workers, WORKER_WORDS).number, LEAFDRUM_REFUSED_AREA);
+    same("refusal of no level taken", leafdrum_last(with(3, 2, 11, 0, 0), 0, AREAS).number, LEAFDRUM_REFUSED_COUNTS);
+    same("refusal of worker 3 of 3", leafdrum_turn(s, 3, AREAS).number, LEAFDRUM_REFUSED_WORKER);
+    same("refusal of row 4096", leafdrum_start(s, 1, 4096, 0, AREAS).number, LEAFDRUM_REFUSED_PIXEL);
+    same("refusal of a viewer's placing call", leafdrum_start(s, 2, 0, 0, AREAS).number, LEAFDRUM_REFUSED_SORT);
+    same("refusal of an idle worker's turn", leafdrum_turn(s, 1, AREAS).number, LEAFDRUM_REFUSED_IDLE);
+    s = call(s, 0, 0).settings;
+    same("refusal of a second node of one", call(s, 512, 0).number, LEAFDRUM_REFUSED_FULL);
+    leafdrum_start(s, 1, 0, 0, AREAS);
+    same("refusal of an open worker's start", leafdrum_start(s, 1, 0, 0, AREAS).number, LEAFDRUM_REFUSED_BUSY);
+    workers[256] = 23; /* no kind of turn */
+    same("refusal of a spoiled record", leafdrum_turn(s, 1, AREAS).number, LEAFDRUM_REFUSED_MEMORY);
+}
+
 int main(void) {
     structs();
     if (failed) return 1; /* nothing can be handed over in other structs */
@@ -302,5 +320,6 @@ int main(void) {
     viewers();
     exchanges();
     answers();
+    refusals();
     return failed;
 }

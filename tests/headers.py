@@ -19,7 +19,7 @@ NODES_TAKEN = "    uint32_t nodes_taken;  /* set by leafdrum_open */\n"
 LEVELS_TAKEN = "    uint32_t levels_taken; /* set by leafdrum_open */\n"
 VIEWERS = "    uint32_t viewers;      /* how many of the last workers are viewers, 0 to workers */\n"
 WIDTH = "    uint32_t width;        /* digit width in bits, one of the four below */\n"
-NUMBER = "    uint32_t number;           /* 0: carried out; else the number of the refusal, 1 to 9 or 17 */\n"
+NUMBER = "    uint32_t number;           /* 0: carried out; else one of the refusals above */\n"
 ANSWER = "    uint32_t answer;           /* one of the answers above; 0 for a refusal other than \"full\", an opening and a list */\n"
 NODE = "    uint32_t node;             /* the node of \"new\" and \"found\", else 0 */\n"
 TURNS = "    uint32_t turns;            /* turns done by leafdrum_turns, else 0 */\n"
@@ -29,6 +29,7 @@ SETTINGS = "    leafdrum_settings settings;\n"
 START = "leafdrum_start(leafdrum_settings settings, uint32_t worker, uint32_t row, uint32_t column, "
 VIEW = START.replace("start", "view")
 CONSTANTS = "LEAFDRUM_NONE = 0, LEAFDRUM_NEW = 1, LEAFDRUM_FOUND = 2, LEAFDRUM_FULL = 3, LEAFDRUM_OPEN = 4, LEAFDRUM_ABSENT = 5"
+REFUSALS = {"SETTINGS": 1, "AREA": 2, "COUNTS": 3, "WORKER": 4, "PIXEL": 5, "MEMORY": 6, "BUSY": 7, "IDLE": 8, "FULL": 9, "SORT": 17}
 LIST = "const uint8_t *list, size_t count, uint32_t limit, "
 WIDTHS = "LEAFDRUM_WIDTH_2 = 2, LEAFDRUM_WIDTH_3 = 3, LEAFDRUM_WIDTH_4 = 4, LEAFDRUM_WIDTH_6 = 6"
 RECORD = "LEAFDRUM_WORKER_WORDS 256"
@@ -118,6 +119,7 @@ WRONG = [
     ("brackets: workers in the workers' area", OF_WORKERS, OF_WORKERS.replace("* (workers)", "* workers")),
 ] + [("brackets: round the whole of " + text.split("(")[0], text, re.sub(r"^(\S+\([\w, ]+\)) \((.*)\)$", r"\1 \2", text))
      for text in (LEVEL, COUNT, OF_NODES, OF_LEVELS, OF_WORKERS)] + [
+    ("refusals: %s by one more" % name.lower(), "LEAFDRUM_REFUSED_%s = %d" % (name, n), "LEAFDRUM_REFUSED_%s = %d" % (name, n + 1)) for name, n in REFUSALS.items()] + [
     ("areas: no length of the levels", "uint32_t *levels, size_t level_words", "uint32_t *levels"),
     ("areas: length before its area", "uint32_t *nodes, size_t node_words", "size_t node_words, uint32_t *nodes"),
     ("areas: length of 32 bits", "size_t node_words", "uint32_t node_words"),
@@ -162,7 +164,7 @@ def write(path, text):
 
 
 def defined():
-    """The declarations that the Rattle source asks for, each as C without blanks."""
+    """The declarations that the Rattle source asks for, and README for the names of refusals, each as C without blanks."""
     c_name = {"Settings": "leafdrum_settings", "LeafdrumReply": "leafdrum_reply", "u32": "uint32_t", "Nothing": "NONE"}
     lengths = {"list": "count", "nodes": "node_words", "levels": "level_words", "workers": "worker_words"}
     source = read("crates/export/src/lib.rt")
@@ -182,6 +184,9 @@ def defined():
     found.append("enum{%s};" % ",".join("LEAFDRUM_%s=%s" % (c_name.get(a, a).upper(), n) for a, n in answers))
     widths = re.findall(r"pub const (WIDTH_\d+): u32 = (\d+);", read("crates/settings/src/lib.rt"))
     found.append("enum{%s};" % ",".join("LEAFDRUM_%s=%s" % width for width in widths))
+    # of the refusals the source has numbers alone: their names are README's
+    refusals = re.findall(r"^\| (\d+) \| `(LEAFDRUM_REFUSED_\w+)` \|", read("README.md"), re.M)
+    found.append("enum{%s};" % ",".join("%s=%s" % (name, n) for n, name in sorted(refusals, key=lambda r: int(r[0]))))
     return sorted(found)
 
 

@@ -1,5 +1,5 @@
 // The C interface: the public operations with their answers as numbers. include/leafdrum.h declares it; tests/headers.py compares the two.
-// Relies on table for the operations, on lists for the parts of a turn and of a list of turns.
+// Relies on table for the operations, on lists for the parts of a turn and of a list of turns, on turns for a viewer's turn.
 ghost use mathlib.Core.Path.{_≡_};
 ghost use mathlib.Core.Bool.{true, false};
 ghost use Prim.Native.Nat.{_-_};
@@ -70,8 +70,8 @@ fn numbers(r: Reply, done: u32, failed: u32) -> LeafdrumReply
     }
 }
 
-// The ways in which a turn or a list ends. A function of the interface returns each of them by itself, and has the steps of a turn in its own text for that:
-// settings that have not changed then go to the caller by wide copies, as they came (docs/DECISIONS.md has the times).
+// The ways in which a start, a turn or a list ends. A function of the interface returns each of them by itself, and has the steps of a turn in its own text for that:
+// the settings of the reply are then made from the caller's, which the questions read in place (docs/DECISIONS.md has the times).
 fn ended_refused(q: u32, s: Settings) -> LeafdrumReply
     ensures { λ x. ⌜ x ≡ numbersOf (reply q Answer.Nothing 0 s) 0 0 ⌝ }
 {
@@ -123,8 +123,12 @@ pub extern "C" fn leafdrum_start(
 ) -> LeafdrumReply
     ensures { λ r. ⌜ shown r (areas (now (nodes .exit)) (now (levels .exit)) (now (workers .exit))) ≡ exported (start (settings .width) settings false worker row column (areas (now (nodes .entry)) (now (levels .entry)) (now (workers .entry)))) ⌝ }
 {
-    let r = table::start(settings, false, worker, row, column, nodes, levels, workers);
-    numbers(r, 0, 0)
+    let q = table::begin(settings, false, worker, row, column, nodes, levels, workers);
+    if q == 0 {
+        ended_open(settings)
+    } else {
+        ended_refused(q, settings)
+    }
 }
 
 // A viewer's call starts.
@@ -140,8 +144,12 @@ pub extern "C" fn leafdrum_view(
 ) -> LeafdrumReply
     ensures { λ r. ⌜ shown r (areas (now (nodes .exit)) (now (levels .exit)) (now (workers .exit))) ≡ exported (start (settings .width) settings true worker row column (areas (now (nodes .entry)) (now (levels .entry)) (now (workers .entry)))) ⌝ }
 {
-    let r = table::start(settings, true, worker, row, column, nodes, levels, workers);
-    numbers(r, 0, 0)
+    let q = table::begin(settings, true, worker, row, column, nodes, levels, workers);
+    if q == 0 {
+        ended_open(settings)
+    } else {
+        ended_refused(q, settings)
+    }
 }
 
 #[no_mangle]
@@ -154,35 +162,30 @@ pub extern "C" fn leafdrum_turn(
 ) -> LeafdrumReply
     ensures { λ r. ⌜ shown r (areas (now (nodes .exit)) (now (levels .exit)) (now (workers .exit))) ≡ exported (turn (settings .width) settings worker (areas (now (nodes .entry)) (now (levels .entry)) (now (workers .entry)))) ⌝ }
 {
-    let mut s = settings;
-    let q = lists::refused_turn(s, worker, nodes, levels, workers);
+    let q = lists::refused_turn(settings, worker, nodes, levels, workers);
     if q == 0 {} else {
-        return ended_refused(q, s);
+        return ended_refused(q, settings);
     }
     // a viewer's turn has its own function, so that the turns of the others do not pay for it
-    if s.views(worker) {
-        let d = turns::view_here(s, worker, nodes, levels, workers);
+    if settings.views(worker) {
+        let d = turns::view_here(settings, worker, nodes, levels, workers);
         if d.number == 6 {
-            return ended_refused(6, s);
+            return ended_refused(6, settings);
         }
-        return ended_told(s, worker, workers);
+        return ended_told(settings, worker, workers);
     }
     // no entry but this worker
     let none = [0u8];
-    let t = lists::run_list(s, worker, &none[..0], 1, nodes, levels, workers);
+    let t = lists::run_list(settings, worker, &none[..0], 1, nodes, levels, workers);
     if t.number == 6 {
-        return ended_refused(6, s);
+        return ended_refused(6, settings);
     }
-    if lists::same_counts(s, t) {
-        // most turns leave the call open, and need not be told apart further
-        if idle_at(workers, worker) {
-            return ended_told(s, worker, workers);
-        }
-        return ended_open(s);
+    let s = settings.with_counts(t.nodes_taken, t.levels_taken);
+    // most turns leave the call open, and need not be told apart further
+    if idle_at(workers, worker) {
+        return ended_told(s, worker, workers);
     }
-    s.nodes_taken = t.nodes_taken;
-    s.levels_taken = t.levels_taken;
-    ended_told(s, worker, workers)
+    ended_open(s)
 }
 
 #[no_mangle]
@@ -196,23 +199,21 @@ pub extern "C" fn leafdrum_turns(
 ) -> LeafdrumReply
     ensures { λ r. ⌜ shown r (areas (now (nodes .exit)) (now (levels .exit)) (now (workers .exit))) ≡ exportedList (listReport (settings .width) settings (now (list .entry)) limit (areas (now (nodes .entry)) (now (levels .entry)) (now (workers .entry)))) ⌝ }
 {
-    let mut s = settings;
-    let q = lists::refused_list(s, list, nodes, levels, workers);
+    let q = lists::refused_list(settings, list, nodes, levels, workers);
     if q == 0 {} else {
-        return ended_refused(q, s);
+        return ended_refused(q, settings);
     }
     // a list without an entry is carried out, and does nothing
     if list.len() == 0 {
-        return ended_refused(0, s);
+        return ended_refused(0, settings);
     }
     let first = lists::wide(list[0]);
-    let t = lists::run_list(s, first, &list[1..], limit, nodes, levels, workers);
-    if lists::same_counts(s, t) {
-        return ended_list(s, t, limit);
-    }
-    s.nodes_taken = t.nodes_taken;
-    s.levels_taken = t.levels_taken;
-    ended_list(s, t, limit)
+    let t = lists::run_list(settings, first, &list[1..], limit, nodes, levels, workers);
+    ended_list(
+        settings.with_counts(t.nodes_taken, t.levels_taken),
+        t,
+        limit,
+    )
 }
 
 #[no_mangle]

@@ -8,9 +8,9 @@ use mathlib.Core.List.{List, [], _∷_}
 use native.Mathlib.Omega.{arith}
 use lib.Dec.{eqb, ltb}
 use lib.ListN.{length}
-use borrow.Author.Tests.{ne-eqb, eq-eqb, eqb-true, ltb-true}
+use borrow.Author.Tests.{ne-eqb, eq-eqb, ltb-true}
 use Rattle.words.specs.Choice.{pick, every}
-use Rattle.words.proofs.Choice.{pick-true, pick-false, both-true, both-left, both-right}
+use Rattle.words.proofs.Choice.{pick-true, pick-false, both-true}
 use Rattle.settings.specs.Sizes.{question1, question3, workerWords, views}
 use Rattle.settings.specs.Cut.{counted, firstThree, Sized}
 use Rattle.settings.specs.declared.Settings.{Settings}
@@ -43,7 +43,7 @@ use Rattle.turns.specs.declared.Done.{Done}
 use Rattle.turns.proofs.Ways.{four-yes, four-inside}
 use Rattle.lists.specs.declared.Tally.{Tally}
 use Rattle.lists.specs.declared.Told.{Told}
-use Rattle.lists.specs.Cut.{Run, run, tally, countedBy, ranOf, ranBy, ranEntry, ranList, sameCounts, numberBy, toldBy, toldReply, refusedTurn, sixTally, nextTally, openTally}
+use Rattle.lists.specs.Cut.{Run, run, tally, countedBy, ranOf, ranBy, ranEntry, ranList, numberBy, toldBy, toldReply, refusedTurn, nextTally, openTally}
 use Rattle.lists.proofs.Tells.{act-number}
 use Rattle.lists.proofs.Ways.{not-eight, turn-four, turn-open, entry-open, views-so}
 
@@ -258,23 +258,14 @@ module _ (s : Settings) (i : ℕ) (n g k : List ℕ) (o : refusedTurn (s .width)
     viewed-ran = alone-ran viewed (entry-open (s .width) s begun i n g k refl (omega arith) alone-three alone-below refl e refl refl (views-so s i v y) alone-open)
 
     pub view-six : {r : Reply} → r ≡ reply 6 Nothing 0 s → d .number ≡ 6 → result r x ≡ turn (s .width) s i (areas n g k)
-    unfolding openTally sixTally
+    unfolding openTally
     view-six f z = one-six viewed viewed-ran refl f (ap (λ (u : Tally). u .number) (pick-true _ _ _ (eq-eqb _ _ z)))
 
     pub view-told : {r : Reply} {o : Told} → r ≡ reply (o .number) (o .answer) 0 s → o ≡ toldBy (headAt (x .workers) i) → (d .«nodes_taken» ≡ s .«nodes_taken») × (d .«levels_taken» ≡ s .«levels_taken») → (d .number ≡ 6 → ⊥) → result r x ≡ turn (s .width) s i (areas n g k)
-    unfolding openTally nextTally counted
+    unfolding openTally counted
     view-told f j c z =
         let o : viewed ≡ nextTally begun d _ _ = pick-false _ _ _ (ne-eqb _ _ z) in
         let p : viewed .«nodes_taken» ≡ s .«nodes_taken» = ap (λ (u : Tally). u .«nodes_taken») o ∙ c .0 in
         let q : viewed .«levels_taken» ≡ s .«levels_taken» = ap (λ (u : Tally). u .«levels_taken») o ∙ c .1 in
         let l : viewed .number ≡ 0 = ap (λ (u : Tally). u .number) o in
         one-told viewed viewed-ran refl f j (sym (ap₂ (λ (a b : ℕ). counted s a b) p q)) (λ m. omega arith)
-
--- with counts that are those of the settings, of a list as of a turn, the settings are the same
-pub same-counted : (s : Settings) (t : Tally) {b : Bool} → b ≡ sameCounts s t → b ≡ true → s ≡ countedBy s t
-unfolding counted
-same-counted s t e y =
-    let z : sameCounts s t ≡ true = sym e ∙ y in
-    let p : t .«nodes_taken» ≡ s .«nodes_taken» = eqb-true _ _ (both-left _ _ z) in
-    let q : t .«levels_taken» ≡ s .«levels_taken» = eqb-true _ _ (both-right (eqb (t .«nodes_taken») (s .«nodes_taken»)) _ z) in
-    sym (ap₂ (λ (n g : ℕ). counted s n g) p q)

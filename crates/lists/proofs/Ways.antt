@@ -12,7 +12,7 @@ use native.Mathlib.Omega.{arith}
 use lib.Dec.{eqb, ltb}
 use lib.ListN.{length, getD, take, drop, drop-of-length-le}
 use lib.Seq.{take-all, drop-cons}
-use borrow.Author.Tests.{eq-eqb, ne-eqb, eqb-true, eqb-false, lt-ltb, lt-leb, ltb-true}
+use borrow.Author.Tests.{eq-eqb, ne-eqb, eqb-true, eqb-false, lt-ltb, ltb-true}
 use Rattle.words.specs.Choice.{pick, both, every, asks, firstNo}
 use Rattle.words.proofs.Choice.{true-false, pick-both, pick-true, pick-false, both-left, both-right}
 use Rattle.settings.specs.Cut.{counted, firstThree, Sized}
@@ -168,11 +168,6 @@ module _ (w : ℕ) (s : Settings) (t : Tally) (i : ℕ) (n g k : List ℕ) (z : 
           ∙ ap (λ (v : Settings). run 0 (state v (its .areas)) (t .left - 1) (t .done + doneIn made) (t .failed + failedIn made)) (counted-is s (its .reply .settings) q)
           ∙ sym (entry-by ∙ pick-false _ _ _ (ne-eqb (its .reply .number) 6 y) ∙ pick-false _ _ _ (ne-eqb (its .reply .number) 8 (not-eight w now i n g k (λ z. omega arith))))
 
--- without viewers no worker is one
-pub none-views : (s : Settings) (i : ℕ) → i < s .workers → s .viewers ≡ 0 → false ≡ views s i
-unfolding views
-none-views s i l z = sym (lt-leb (s .workers - s .viewers) i (omega arith))
-
 -- what was asked of the settings
 pub views-so : (s : Settings) (i : ℕ) {v b : Bool} → v ≡ views s i → v ≡ b → views s i ≡ b
 views-so s i e y = sym e ∙ y
@@ -294,14 +289,14 @@ module _ (m : ℕ) (l : List ℕ) where
   pub place-in : (k : ℕ) → k ≤ length l → k < length (m ∷ l)
   place-in k h = omega arith
 
-  pub first-entry : 0 ≤ length l → m ≡ getD (m ∷ l) 0 0
-  first-entry h = refl
+  pub first-entry : m ≡ getD (m ∷ l) 0 0
+  first-entry = refl
 
-  pub next-entry : (k : ℕ) {i v : ℕ} → i ≡ v → v ≡ getD l k 0 → k + 1 ≤ length l → i ≡ getD (m ∷ l) (k + 1) 0
-  next-entry k p q h = rw add-one (p ∙ q)
+  pub next-entry : (k : ℕ) {i : ℕ} → i ≡ getD l k 0 → i ≡ getD (m ∷ l) (k + 1) 0
+  next-entry k p = rw add-one p
 
-  pub no-next : (k : ℕ) {i : ℕ} → length l ≤ k → k + 1 ≤ length l → i ≡ getD (m ∷ l) (k + 1) 0
-  no-next k p h = absurd (omega arith)
+  pub last-entry : (k : ℕ) → k ≡ length l → length (m ∷ l) ≤ k + 1
+  last-entry k h = omega arith
 
 -- a list that goes no further
 pub list-left : (w : ℕ) (l : List ℕ) (s : Settings) (t : Tally) (a : Areas) {x : Run} → ranList w l (ranOf s t a) ≡ x → t .left ≡ 0 → ranOf s t a ≡ x

@@ -5,7 +5,7 @@ use mathlib.Core.Bool.{Bool}
 use mathlib.Core.List.{List, [], _∷_}
 use lib.Dec.{eqb}
 use lib.ListN.{length}
-use Rattle.words.specs.Choice.{pick, both}
+use Rattle.words.specs.Choice.{pick}
 use Rattle.settings.specs.Cut.{counted}
 use Rattle.settings.specs.Sizes.{views}
 use Rattle.settings.specs.declared.Settings.{Settings}
@@ -63,10 +63,6 @@ countedBy s t = counted s (t .«nodes_taken») (t .«levels_taken»)
 
 abbrev pub ranOf : Settings → Tally → Areas → Run
 ranOf s t a = run (t .number) (state (countedBy s t) a) (t .left) (t .done) (t .failed)
-
--- that a tally's counts are those of the settings
-abbrev pub sameCounts : Settings → Tally → Bool
-sameCounts s t = both (eqb (t .«nodes_taken») (s .«nodes_taken»)) (eqb (t .«levels_taken») (s .«levels_taken»))
 
 -- a tally by its parts
 abbrev pub tally : ℕ → ℕ → ℕ → ℕ → ℕ → ℕ → Tally

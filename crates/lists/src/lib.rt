@@ -14,7 +14,7 @@ ghost use Rattle.record.specs.Kinds.{kindNo};
 ghost use Rattle.record.specs.Layout.{headAt};
 ghost use Rattle.rules.specs.Operations.{result, reply, turn};
 ghost use Rattle.rules.specs.Lists.{state, listQuestions};
-ghost use Rattle.lists.specs.Cut.{run, countedBy, ranOf, sixTally, idleTally, openTally, nextTally, ranEntry, ranList, numberBy, toldBy, sameCounts, idleNumber, refusedTurn};
+ghost use Rattle.lists.specs.Cut.{run, countedBy, ranOf, sixTally, idleTally, openTally, nextTally, ranEntry, ranList, numberBy, toldBy, idleNumber, refusedTurn};
 use record::Answer;
 use record::Exchange;
 use record::Head;
@@ -32,7 +32,6 @@ use turns::Done;
 use turns::open_here;
 use turns::view_here;
 use words::and;
-use words::eq;
 use words::le;
 use words::lt;
 
@@ -134,17 +133,12 @@ fn open_entry(
     tallied(t, d)
 }
 
-// Worker i is a viewer, of settings in range. Most tables have no viewer, so that is asked first.
+// Worker i is a viewer, of settings in range: Settings::views without its test that the viewers are at most the workers.
 fn views_of(s: Settings, i: u32) -> bool
-    requires { ⌜ i < s .workers ⌝ }
     requires { ⌜ s .viewers ≤ s .workers ⌝ }
     ensures { λ r. ⌜ r ≡ views s i ⌝ }
 {
-    if s.viewers == 0 {
-        false
-    } else {
-        le(s.workers - s.viewers, i)
-    }
+    le(s.workers - s.viewers, i)
 }
 
 // One entry of a list of turns that goes on.
@@ -219,24 +213,22 @@ pub fn run_list(
         done: 0,
         failed: 0,
     };
-    let n = rest.len();
     let mut i = first;
     let mut k = 0;
-    while k <= n {
+    loop {
         if t.left == 0 {
             return t;
         }
         t = entry(s, t, i, nodes, levels, workers);
-        if t.number == 0 {
-            if k < n {
-                i = wide(rest[k]);
-            } else {}
-            k += 1;
-        } else {
+        if t.number == 0 {} else {
             return t;
         }
+        if k == rest.len() {
+            return t;
+        }
+        i = wide(rest[k]);
+        k += 1;
     }
-    t
 }
 
 // One number less another, and 0 where the other is greater.
@@ -244,16 +236,6 @@ fn less(n: u32, k: u32) -> u32
     ensures { λ r. ⌜ r ≡ n - k ⌝ }
 {
     if k <= n { n - k } else { 0 }
-}
-
-// No node and no level has been taken: the settings are those that the list began with.
-pub fn same_counts(s: Settings, t: Tally) -> bool
-    ensures { λ r. ⌜ r ≡ sameCounts s t ⌝ }
-{
-    and(
-        eq(t.nodes_taken, s.nodes_taken),
-        eq(t.levels_taken, s.levels_taken),
-    )
 }
 
 // Questions 1 to 4 of a list of turns: the number of the first no, or 0.

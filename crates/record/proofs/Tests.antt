@@ -62,9 +62,15 @@ module _ {v : Bool} where
   unfolding answerFits pick
   told-on a c t = simp (c, t)
 
-  pub told-off : (a : ℕ) {b : Bool} → b ≡ leb a 3 → v ≡ false → b ≡ answerFits v a
+  pub told-low : (a : ℕ) → leb a 3 ≡ true → v ≡ false → true ≡ answerFits v a
   unfolding answerFits pick
-  told-off a c t = simp (c, t)
+  told-low a l t = simp (l, t)
+
+-- past 3 an answer is a viewer's alone
+pub told-high : (v : Bool) (a : ℕ) {b t : Bool} → b ≡ both v t → t ≡ viewerTold a → leb a 3 ≡ false → b ≡ answerFits v a
+unfolding answerFits both pick
+told-high true a c t h = c ∙ t
+told-high false a c t h = c ∙ sym h
 
 -- outer_fit: no Move yet, one more, and all
 module _ (w : ℕ) (s : Settings) (l : List ℕ) (i : ℕ) where

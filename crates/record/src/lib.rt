@@ -397,7 +397,7 @@ fn role_fits(v: bool, k: u32) -> bool
     if v { viewing(k) } else { true }
 }
 
-// The record of worker i, which is no viewer, fits its layout, where its head h is that of a search.
+// The record of worker i with the head h of a search fits its layout. Of a viewer this is asked at one of a viewer's kinds alone.
 pub fn search_fits(s: Settings, h: Head, words: &[u32], i: u32) -> bool
     requires { ⌜ s .limit ≤ maxLimit ⌝ }
     requires { ⌜ h ≡ headAt (now words) i ⌝ }
@@ -444,14 +444,14 @@ fn viewer_told(a: u32) -> bool
 pub fn idle_fits(v: bool, answer: u32) -> bool
     ensures { λ r. ⌜ r ≡ answerFits v answer ⌝ }
 {
-    if v {
-        viewer_told(answer)
+    if answer <= 3 {
+        if v { viewer_told(answer) } else { true }
     } else {
-        le(answer, 3)
+        and(v, viewer_told(answer))
     }
 }
 
-// The record of worker i with the head h, whose call is open, fits its layout, if its kind is one of its sort of worker.
+// The record of worker i with the head h of an open call fits its layout, whatever its kind. Of a viewer this is asked at one of a viewer's kinds alone.
 fn open_fits(s: Settings, h: Head, words: &[u32], i: u32) -> bool
     requires { ⌜ DigitWidth (s .width) ⌝ }
     requires { ⌜ s .limit ≤ maxLimit ⌝ }

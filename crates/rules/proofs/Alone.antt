@@ -1,7 +1,7 @@
 -- A call with all turns to itself ends, from every state that a sequence can reach, within the turns that the definition names.
 -- Relies on that the measure falls in every turn after which a call goes on, and on its bound.
 use Prim.Native.Nat.{ℕ, zero, suc, _*_, _<_}
-use mathlib.Core.Path.{_≡_, refl, sym, ap, subst, _∙_}
+use mathlib.Core.Path.{_≡_, refl, sym, ap, _∙_}
 use mathlib.Core.Bool.{true, false}
 use mathlib.Core.List.{List, []}
 use native.Mathlib.Omega.{arith}
@@ -25,7 +25,7 @@ use Rattle.trie.proofs.Whole.{Worker}
 use Rattle.rules.proofs.Dims.{dims, Width}
 use Rattle.rules.proofs.Invariant.{WorldOf, Rowing, goes, ends-new, ends-found, TurnOk, Fine, ends-absent}
 use Rattle.rules.proofs.Idle.{acts-busy, busy-of}
-use Rattle.rules.proofs.AloneTurn.{TurnIs, carried, filled, turn-is, fine-taken}
+use Rattle.rules.proofs.AloneTurn.{TurnIs, carried, filled, turn-is, fine-turned}
 use Rattle.rules.proofs.Carried.{opening-done}
 use Rattle.rules.proofs.Refused.{refuses-opening}
 use Rattle.rules.proofs.Along.{Along}
@@ -77,7 +77,7 @@ module _ (w i : ℕ) where
 
         on : Ends n → (K : TurnOk w s₀ W ws i (act w (views (x .settings) i) (x .settings) (recordOf (x .areas) i) (memoryOf (x .areas)))) → r ≡ taken (act w (views (x .settings) i) (x .settings) (recordOf (x .areas) i) (memoryOf (x .areas))) i (x .areas .workers) → {v : Answer} → r .reply .answer ≡ v → Rowing W (K .world) (ws i) (K .worker) v → EndsAlone w (suc n) i x
         on f K e a (goes E b z p q) =
-            let F′ = subst (λ (u : Result). Fine w s₀ (after u) (K .world) (upd ws i (K .worker))) (sym e) (fine-taken F i here busy K) in
+            let F′ = fine-turned F i here busy K e in
             let M = rw (upd-same ws i (K .worker)) at (F′ .records i here) in
             let l = K .falls z .less in
             let s : upd ws i (K .worker) i .act ≡ K .worker .act = ap (λ (c : Worker). c .act) (upd-same ws i (K .worker)) in

@@ -6,7 +6,7 @@ use borrow.Author.Tests.{not-true}
 use Prim.Native.Nat.{ℕ, zero, suc, _<_}
 use mathlib.Core.Path.{_≡_, refl, sym, ap, subst, _∙_}
 use mathlib.Core.Logic.{_⊎_, inl, inr}
-use mathlib.Core.Bool.{Bool, true, false}
+use mathlib.Core.Bool.{true, false}
 use mathlib.Core.List.{List, [], _∷_, _++_, List·Memᴰ·append-cases, List·Memᴰ·eq-of-singleton, Memᴰ·append-left}
 use native.Mathlib.Omega.{arith}
 use Rattle.words.specs.Digits.{pixelNumber}
@@ -43,17 +43,17 @@ use Rattle.rules.proofs.Turned.{still-searching}
 use Rattle.rules.proofs.Alone.{turns-are}
 use Rattle.rules.proofs.Ending.{none-left, full-unseen, stopped, fine-full}
 use Rattle.rules.proofs.Idle.{acts-busy, idle-rests, open-of}
-use Rattle.rules.proofs.AloneTurn.{TurnIs, carried, filled, turn-is, fine-taken}
+use Rattle.rules.proofs.AloneTurn.{TurnIs, carried, filled, turn-is, fine-turned}
 use Rattle.rules.proofs.AloneHolds.{Missing, Calm, nothing, Ended, is-new, is-found, is-full, Over, calm-on, calm-new, calm-found, calm-full}
 
 -- what is shown from the root: the nodes of the book with their pixels
 module _ {w : ℕ} {s₀ : Settings} {x : State} {W : WorldOf w s₀} {ws : ℕ → Worker} (F : Fine w s₀ x W ws) (top : W .tree .prev 0 ≡ none) where
-  shown-noted : {q m : ℕ} → Shown w x q m → (m ∈ W .book) × (W .pixel m ≡ q)
+  pub shown-noted : {q m : ℕ} → Shown w x q m → (m ∈ W .book) × (W .pixel m ≡ q)
   shown-noted {q} {m} h =
       let p = reached-placed (F .table) (F .inv .structure) top m (h .reached) in
       (F .inv .partition .noted m p, sym (pixel-reads (F .table) m (not-free p)) ∙ h .pixel-is)
 
-  noted-shown : {q m : ℕ} → m ∈ W .book → W .pixel m ≡ q → Shown w x q m
+  pub noted-shown : {q m : ℕ} → m ∈ W .book → W .pixel m ≡ q → Shown w x q m
   noted-shown {q} {m} i e =
       let p = F .inv .partition .noted-placed m i in
       record { reached = placed-reached (F .table) (F .inv .structure) top m p; pixel-is = pixel-reads (F .table) m (not-free p) ∙ e }
@@ -73,6 +73,18 @@ module _ {w : ℕ} {s₀ : Settings} {x : State} {W : WorldOf w s₀} {ws : ℕ 
       let o = F .table .nodes-fresh .beyond m (omega arith) in
       omega arith
 
+-- the run over one turn: what is said of its result
+module _ (w i : ℕ) (P : Result → Type 0) (n : ℕ) (x : State) where
+  -- the turn ends the call
+  pub ends-here : goesOn (turn w (x .settings) i (x .areas) .reply .answer) ≡ false → P (turn w (x .settings) i (x .areas)) → P (runAlone w (suc n) i x)
+  unfolding runAlone
+  ends-here g l = subst P (sym (pick-false _ _ _ g)) l
+
+  -- the call goes on after it
+  pub goes-on : goesOn (turn w (x .settings) i (x .areas) .reply .answer) ≡ true → P (runAlone w n i (after (turn w (x .settings) i (x .areas)))) → P (runAlone w (suc n) i x)
+  unfolding runAlone
+  goes-on g l = subst P (sym (pick-true _ _ _ g)) l
+
 module _ (w i : ℕ) (s₀ : Settings) (here : i < s₀ .workers) (placing : views s₀ i ≡ false) (B : List ℕ) (P : ℕ → ℕ) (K t₀ : ℕ) where
   -- the state after the last turn
   pub record Leaves (r : Result) : Type 0 where
@@ -84,14 +96,6 @@ module _ (w i : ℕ) (s₀ : Settings) (here : i < s₀ .workers) (placing : vie
 
   abbrev Runs : ℕ → Type 0
   Runs n = (x : State) (W : WorldOf w s₀) (ws : ℕ → Worker) (F : Fine w s₀ x W ws) → question7 (recordOf (x .areas) i) ≡ false → measure (levelCount w s₀) W (ws i .act) < n → Calm B P K t₀ W (ws i) (x .settings .«nodes_taken») → Leaves (runAlone w n i x)
-
-  ends-here : (n : ℕ) (x : State) → goesOn (turn w (x .settings) i (x .areas) .reply .answer) ≡ false → Leaves (turn w (x .settings) i (x .areas)) → Leaves (runAlone w (suc n) i x)
-  unfolding runAlone
-  ends-here n x g l = subst Leaves (sym (pick-false _ _ _ g)) l
-
-  goes-on : (n : ℕ) (x : State) → goesOn (turn w (x .settings) i (x .areas) .reply .answer) ≡ true → Leaves (runAlone w n i (after (turn w (x .settings) i (x .areas)))) → Leaves (runAlone w (suc n) i x)
-  unfolding runAlone
-  goes-on n x g l = subst Leaves (sym (pick-true _ _ _ g)) l
 
   runs : (n : ℕ) → Runs n
   unfolding taken full goesOn
@@ -106,17 +110,17 @@ module _ (w i : ℕ) (s₀ : Settings) (here : i < s₀ .workers) (placing : vie
 
       on : Runs n → (T : TurnOk w s₀ W ws i (act w (views (x .settings) i) (x .settings) (recordOf (x .areas) i) (memoryOf (x .areas)))) → r ≡ taken (act w (views (x .settings) i) (x .settings) (recordOf (x .areas) i) (memoryOf (x .areas))) i (x .areas .workers) → {v : Answer} → r .reply .answer ≡ v → Rowing W (T .world) (ws i) (T .worker) v → Held W (ws i) (T .worker .node) (r .reply .settings .«nodes_taken») v → Leaves (runAlone w (suc n) i x)
       on f T e a (goes E b z p q) d =
-          let F′ = subst (λ (u : Result). Fine w s₀ (after u) (T .world) (upd ws i (T .worker))) (sym e) (fine-taken F i here busy T) in
+          let F′ = fine-turned F i here busy T e in
           let M = rw (mine (T .worker)) at (F′ .records i here) in
           let l = T .falls z .less in
           let C = calm-on B P K t₀ k (F .inv .structure) (F .inv .partition) (F .table .nodes-fresh) {W′ = T .world} {c′ = T .worker} (F .inv .each i .acts) (goes E b z p q) d in
-          goes-on n x (ap goesOn a) (f _ _ _ F′ (acts-busy M z) (rw (ap (λ (c : Worker). c .act) (mine (T .worker))) (omega arith)) (rw (mine (T .worker)) C))
+          goes-on w i Leaves n x (ap goesOn a) (f _ _ _ F′ (acts-busy M z) (rw (ap (λ (c : Worker). c .act) (mine (T .worker))) (omega arith)) (rw (mine (T .worker)) C))
       on f T e a (ends-new c p u g) d =
-          let F′ = subst (λ (u : Result). Fine w s₀ (after u) (T .world) (upd ws i (T .worker))) (sym e) (fine-taken F i here busy T) in
-          ends-here n x (ap goesOn a) (record { world = T .world; workers = upd ws i (T .worker); fine = F′; rests = rw (mine (T .worker)) g; over = rw (mine (T .worker), a) (calm-new B P K t₀ k (F .inv .structure) (F .inv .partition) (F .table .nodes-fresh) {W′ = T .world} {c′ = T .worker} (s₀ .nodes) (ends-new c p u g) d) })
+          let F′ = fine-turned F i here busy T e in
+          ends-here w i Leaves n x (ap goesOn a) (record { world = T .world; workers = upd ws i (T .worker); fine = F′; rests = rw (mine (T .worker)) g; over = rw (mine (T .worker), a) (calm-new B P K t₀ k (F .inv .structure) (F .inv .partition) (F .table .nodes-fresh) {W′ = T .world} {c′ = T .worker} (s₀ .nodes) (ends-new c p u g) d) })
       on f T e a (ends-found p q u g) d =
-          let F′ = subst (λ (u : Result). Fine w s₀ (after u) (T .world) (upd ws i (T .worker))) (sym e) (fine-taken F i here busy T) in
-          ends-here n x (ap goesOn a) (record { world = T .world; workers = upd ws i (T .worker); fine = F′; rests = rw (mine (T .worker)) g; over = rw (mine (T .worker), a) (calm-found B P K t₀ k (F .inv .structure) (F .inv .partition) (F .table .nodes-fresh) {W′ = T .world} {c′ = T .worker} (s₀ .nodes) (ends-found p q u g) d) })
+          let F′ = fine-turned F i here busy T e in
+          ends-here w i Leaves n x (ap goesOn a) (record { world = T .world; workers = upd ws i (T .worker); fine = F′; rests = rw (mine (T .worker)) g; over = rw (mine (T .worker), a) (calm-found B P K t₀ k (F .inv .structure) (F .inv .partition) (F .table .nodes-fresh) {W′ = T .world} {c′ = T .worker} (s₀ .nodes) (ends-found p q u g) d) })
       on f T e a (ends-absent p u g) d =
           let t = act-tells w (views (x .settings) i) (x .settings) (recordOf (x .areas) i) (memoryOf (x .areas)) (open-of (recordOf (x .areas) i) busy) in
           let q = t .viewer (sym (ap (λ (u : Result). u .reply .answer) e) ∙ a) in
@@ -131,7 +135,7 @@ module _ (w i : ℕ) (s₀ : Settings) (here : i < s₀ .workers) (placing : vie
           let F′ = subst (λ (u : Result). Fine w s₀ (after u) W (upd ws i (stopped (ws i)))) (sym e) (fine-full F i here (N .taking)) in
           let z : ws i .node ≡ 0 = sym (F .records i here .node-is) ∙ N .holds-none in
           let o = calm-full B P K t₀ k (s₀ .nodes) (full-unseen (at F i here) (N .taking)) z (omega (arith, N .all-taken, F .table .same .nodes-is)) in
-          ends-here n x (ap goesOn a) (record { world = W; workers = upd ws i (stopped (ws i)); fine = F′; rests = rw (mine (stopped (ws i))) refl; over = rw (mine (stopped (ws i)), a, t) o })
+          ends-here w i Leaves n x (ap goesOn a) (record { world = W; workers = upd ws i (stopped (ws i)); fine = F′; rests = rw (mine (stopped (ws i))) refl; over = rw (mine (stopped (ws i)), a, t) o })
 
 -- said of the words
 module _ {w : ℕ} {s₀ : Settings} {x : State} {W : WorldOf w s₀} {ws : ℕ → Worker} (F : Fine w s₀ x W ws) (top : W .tree .prev 0 ≡ none) (i : ℕ) (here : i < s₀ .workers) (placing : views s₀ i ≡ false) (p : ℕ) {r : Result} (L : Leaves w i s₀ here placing (W .book) (W .pixel) p (x .settings .«nodes_taken») r) where

@@ -2,7 +2,7 @@
 -- Relies on that every kind of turn keeps the invariant, and on the questions that are answered yes.
 use Rattle.settings.specs.Sizes.{views}
 use Prim.Native.Nat.{ℕ, _<_}
-use mathlib.Core.Path.{_≡_, refl, _∙_}
+use mathlib.Core.Path.{_≡_, refl, sym, subst, _∙_}
 use mathlib.Core.Bool.{Bool, true, false}
 use mathlib.Core.List.{[], _∷_}
 use Rattle.words.specs.Choice.{asks, firstNo}
@@ -10,7 +10,7 @@ use Rattle.words.proofs.Choice.{pick-true, pick-false}
 use Rattle.settings.specs.declared.Settings.{Settings}
 use Rattle.rules.specs.Acts.{act}
 use Rattle.rules.specs.Asked.{question7, question9}
-use Rattle.rules.specs.Operations.{recordOf, memoryOf, turnQuestions, taken, full, turn}
+use Rattle.rules.specs.Operations.{Result, recordOf, memoryOf, turnQuestions, taken, full, turn}
 use Rattle.rules.specs.Lists.{State, after}
 use Rattle.trie.proofs.Update.{upd}
 use Rattle.trie.proofs.Whole.{Worker}
@@ -55,3 +55,7 @@ module _ {w : ℕ} {s₀ : Settings} {x : State} {W : WorldOf w s₀} {ws : ℕ 
   pub fine-taken : (K : TurnOk w s₀ W ws i (act w (views (x .settings) i) (x .settings) (recordOf (x .areas) i) (memoryOf (x .areas)))) → Fine w s₀ (after (taken (act w (views (x .settings) i) (x .settings) (recordOf (x .areas) i) (memoryOf (x .areas))) i (x .areas .workers))) (K .world) (upd ws i (K .worker))
   unfolding taken
   fine-taken K = fine-after F i here (K .table) (K .inv) (K .levels) (K .matches) (turn-role F i here busy)
+
+  -- said of the turn itself
+  pub fine-turned : (K : TurnOk w s₀ W ws i (act w (views (x .settings) i) (x .settings) (recordOf (x .areas) i) (memoryOf (x .areas)))) → turn w (x .settings) i (x .areas) ≡ taken (act w (views (x .settings) i) (x .settings) (recordOf (x .areas) i) (memoryOf (x .areas))) i (x .areas .workers) → Fine w s₀ (after (turn w (x .settings) i (x .areas))) (K .world) (upd ws i (K .worker))
+  fine-turned K e = subst (λ (r : Result). Fine w s₀ (after r) (K .world) (upd ws i (K .worker))) (sym e) (fine-taken K)

@@ -13,8 +13,8 @@ use Rattle.rules.specs.Lists.{State}
 use Rattle.rules.specs.Calls.{Event, stateAfter, Call, Book, Holds, HasPixel, InOrder, Reads, ReadsRow, done, then}
 use Rattle.rules.specs.Calls as calls
 use Rattle.rules.specs.Demands.{Row}
-use Rattle.rules.specs.Consequences.{Places, NonePlaces, AllFind, NewIn, Shown, Consequences}
-use Rattle.rules.proofs.RowBook.{Born, born, when-born, run-keeps, read-places, places-in}
+use Rattle.rules.specs.Consequences.{Names, NoneNames, AllFind, NewIn, Shown, Consequences}
+use Rattle.rules.proofs.RowBook.{Born, born, when-born, run-keeps, read-names, names-in}
 use Rattle.rules.proofs.Theorem.{theorem}
 
 -- in the book a pixel has one node, and a node one pixel
@@ -92,12 +92,12 @@ full-found e = let y : _≡_ {A = ℕ} 0 1 = cc in omega arith
 absent-found : {m : ℕ} → Absent ≡ Found m → ⊥
 absent-found e = let y : _≡_ {A = ℕ} 0 1 = cc in omega arith
 
-absent-places : (d : Call) {n : ℕ} → Places d n → d .answer ≡ Absent → ⊥
-absent-places d (inl a) e = let y : _≡_ {A = ℕ} 0 1 = cc in omega arith
-absent-places d (inr a) e = absent-found (sym e ∙ a)
+absent-names : (d : Call) {n : ℕ} → Names d n → d .answer ≡ Absent → ⊥
+absent-names d (inl a) e = let y : _≡_ {A = ℕ} 0 1 = cc in omega arith
+absent-names d (inr a) e = absent-found (sym e ∙ a)
 
-none-before : {b : Book} {cs : List Call} (p : ℕ) → ReadsRow [] cs b → ¬ (HasPixel b p) → NonePlaces cs p
-none-before p r out d n i e a = out (n, rw e at (places-in r d n i a))
+none-before : {b : Book} {cs : List Call} (p : ℕ) → ReadsRow [] cs b → ¬ (HasPixel b p) → NoneNames cs p
+none-before p r out d n i e a = out (n, rw e at (names-in r d n i a))
 
 -- a call for a pixel that stands in the book
 finds : {b b′ : Book} {c : Call} {n : ℕ} → OneToOne b → Holds b (c .pixel) n → Reads b c b′ → c .answer ≡ Found n
@@ -117,14 +117,14 @@ all-find {b} {b′} p n o i (then {b₁ = b₁} {c = c} {cs = cs} a r) d j q = b
 -- a call that places its pixel did not end before one that says "absent" of it started
 late :
     {b b′ : Book} {cs : List Call} → OneToOne b → ReadsRow b cs b′ → InOrder cs → (c d : Call) (n : ℕ)
-    → List·Memᴰ c cs → List·Memᴰ d cs → c .answer ≡ Absent → Places d n → d .pixel ≡ c .pixel → ¬ (d .end < c .start)
+    → List·Memᴰ c cs → List·Memᴰ d cs → c .answer ≡ Absent → Names d n → d .pixel ≡ c .pixel → ¬ (d .end < c .start)
 late o (done z) q c d n i j a u e = absurd (List·Memᴰ·not-nil i)
 late {b} {b′} o (then {b₁ = b₁} {c = h} {cs = cs} k r) (calls.first f q) c d n i j a u e = by (List·Memᴰ·cases-cons i) (List·Memᴰ·cases-cons j) (λ x y. late (read-one k o) r q c d n x y a u e)
   where
     by : (c ≡ h) ⊎ List·Memᴰ c cs → (d ≡ h) ⊎ List·Memᴰ d cs → (List·Memᴰ c cs → List·Memᴰ d cs → ¬ (d .end < c .start)) → ¬ (d .end < c .start)
-    by (inl x) (inl y) z = absurd (absent-places d u (ap (λ (v : Call). v .answer) (y ∙ sym x) ∙ a))
+    by (inl x) (inl y) z = absurd (absent-names d u (ap (λ (v : Call). v .answer) (y ∙ sym x) ∙ a))
     by (inl x) (inr y) z = rw x (f d y)
-    by (inr x) (inl y) z = absurd (absent-found (sym a ∙ all-find (c .pixel) n (read-one k o) (rw (sym (ap (λ (v : Call). v .pixel) y) ∙ e) at (read-places k (rw y at u))) r c x refl))
+    by (inr x) (inl y) z = absurd (absent-found (sym a ∙ all-find (c .pixel) n (read-one k o) (rw (sym (ap (λ (v : Call). v .pixel) y) ∙ e) at (read-names k (rw y at u))) r c x refl))
     by (inr x) (inr y) z = z x y
 
 -- a pair in the book was entered by a "new"
@@ -134,7 +134,7 @@ new-in {b} {cs} p n r i = by (when-born p r (λ h. List·Memᴰ·not-nil (h .1))
     by : Born [] p cs b → NewIn cs p n
     by (born pre post c b₁ m is a q before out on) =
         let here : List·Memᴰ c cs = rw is (Memᴰ·append-right pre (List·Memᴰ·head refl)) in
-        let e : m ≡ n = run-one r none-noted .nodes p m n (rw q at (places-in r c m here (inl a))) i in
+        let e : m ≡ n = run-one r none-noted .nodes p m n (rw q at (names-in r c m here (inl a))) i in
         (c, here, q, a ∙ ap New e)
 
 perm-mem : {A : Type 0} {a : A} {xs ys : List A} → List·Permᴰ xs ys → List·Memᴰ a xs → List·Memᴰ a ys
@@ -165,11 +165,11 @@ module _ {w : ℕ} {x : State} {es : List Event} (R : Row w x es) where
         shown-once = λ p m n i j. one .nodes p m n (noted p m i) (noted p n j);
         shown-placed = noted;
         in-row = λ c i. perm-mem (R .all-calls) i;
-        said = λ c n i a. let h = places-in (R .reads) c n i a in (h, shows (c .pixel) n h);
+        said = λ c n i a. let h = names-in (R .reads) c n i a in (h, shows (c .pixel) n h);
         new-first = λ pre post c n e a.
             let k = cut pre c post (rw e at (R .reads)) in
             let o = run-one (k .up-to) none-noted in
-            (none-before (c .pixel) (k .up-to) (not-found (k .here) (λ m f. new-found (sym a ∙ f))), all-find (c .pixel) n (read-one (k .here) o) (read-places (k .here) (inl a)) (k .on));
+            (none-before (c .pixel) (k .up-to) (not-found (k .here) (λ m f. new-found (sym a ∙ f))), all-find (c .pixel) n (read-one (k .here) o) (read-names (k .here) (inl a)) (k .on));
         found-after = λ pre post c n e a. let k = cut pre c post (rw e at (R .reads)) in new-in (c .pixel) n (k .up-to) (is-found (k .here) a);
         full-before = λ pre post c e a. let k = cut pre c post (rw e at (R .reads)) in none-before (c .pixel) (k .up-to) (not-found (k .here) (λ m f. full-found (sym a ∙ f)));
         absent-before = λ pre post c e a. let k = cut pre c post (rw e at (R .reads)) in none-before (c .pixel) (k .up-to) (not-found (k .here) (λ m f. absent-found (sym a ∙ f)));

@@ -7,7 +7,6 @@ use mathlib.Core.Bool.{true}
 use mathlib.Core.List.{List, [], _∷_}
 use native.Mathlib.Omega.{arith}
 use lib.ListN.{length}
-use borrow.Author.Tests.{le-leb}
 use Rattle.words.specs.Choice.{pick, both}
 use Rattle.words.specs.Digits.{base, depths, maxPixel}
 use Rattle.settings.specs.Sizes.{maxMoves, views}

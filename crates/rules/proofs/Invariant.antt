@@ -76,10 +76,16 @@ pub data Held {δ : Dims} (W : World δ) (c : Worker) (node taken : ℕ) : Answe
   kept : {R : ℕ} → Fresh (W .nodeOwner) taken → node ≡ c .node → Held W c node taken (Found R)
   left : Fresh (W .nodeOwner) taken → node ≡ c .node → Held W c node taken Absent
 
+-- the worker holds no node and no level
+abbrev pub HoldsNone : Head → Type 0
+HoldsNone h = (h .«held_node» ≡ 0) × (h .«held_level» ≡ 0)
+
 -- a head is of a viewer's kind and answer, or of another worker's
 pub record Role (v : Bool) (h : Head) : Type 0 where
   pub rest : kindNo (h .kind) ≡ 0 → answerFits v (h .answer) ≡ true
   pub call : kindNo (h .kind) ≢ 0 → roleFits v (kindNo (h .kind)) ≡ true
+  -- a viewer takes nothing
+  pub holds-none : v ≡ true → HoldsNone h
 
 -- what is known where worker i, whose record is r, has a turn
 pub record At (w : ℕ) (s₀ s : Settings) (m : Memory) (W : WorldOf w s₀) (ws : ℕ → Worker) (i : ℕ) (r : Record) : Type 0 where

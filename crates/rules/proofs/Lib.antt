@@ -94,3 +94,4 @@ pub mod ListEnds
 pub mod OwnExchange
 pub mod Striking
 pub mod Viewers
+pub mod ViewsAlone

@@ -80,8 +80,8 @@ levels {δ} W workers =
 -- a zeroed record is a viewer's and another worker's
 fresh-role : (v : Bool) → Role v (idle .head)
 unfolding answerFits viewerTold kindNo pick
-fresh-role true = record { rest = λ y. refl; call = λ y. absurd (y refl) }
-fresh-role false = record { rest = λ y. refl; call = λ y. absurd (y refl) }
+fresh-role true = record { rest = λ y. refl; call = λ y. absurd (y refl); holds-none = λ y. (refl, refl) }
+fresh-role false = record { rest = λ y. refl; call = λ y. absurd (y refl); holds-none = λ y. (refl, refl) }
 
 -- the workers' words are zeros
 pub zero-record : (l : List ℕ) (workers i : ℕ) → i < workers → workerWords * workers ≤ length l → load (fill l 0 (workerWords * workers) 0) i ≡ idle

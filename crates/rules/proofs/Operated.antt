@@ -172,9 +172,9 @@ opening-not-6 : (w : ℕ) (s : Settings) (a : Areas) → opening w s a .reply .n
 opening-not-6 w s a e = never-first (opening-asks w s a) (refuses-opening w s a .numbered .refusal 6 (λ z. omega arith) .0 e)
 
 -- of a worker the right sort of call may be started
-right-call : (s : Settings) (i : ℕ) → question17 s (views s i) i ≡ true
+sort-fits : (s : Settings) (i : ℕ) → question17 s (views s i) i ≡ true
 unfolding question17 pick
-right-call s i = by (views s i)
+sort-fits s i = by (views s i)
   where
     by : (b : Bool) → pick b b (not b) ≡ true
     by true = refl
@@ -195,7 +195,7 @@ last-start w s i a e =
     ∙ first-yes 3 _ y₃
     ∙ first-yes 4 _ y₄
     ∙ first-yes 5 _ refl
-    ∙ first-yes 17 _ (right-call s i)
+    ∙ first-yes 17 _ (sort-fits s i)
     ∙ gives-first-no (here refl n)
 
 module _ {w : ℕ} where

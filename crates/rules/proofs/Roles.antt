@@ -1,4 +1,4 @@
--- A viewer's record stays that of a viewer, another worker's that of another: over a start, over a turn, over "full".
+-- A viewer's record stays that of a viewer, which holds nothing, another worker's that of another: over a start, over a turn, over "full".
 -- Relies on the definitions of the turns, on the answers that a record tells.
 use Prim.Native.Nat.{ℕ, _≤_, _<_}
 use mathlib.Core.Path.{_≡_, refl, sym, ap, _∙_}
@@ -23,14 +23,14 @@ use Rattle.record.specs.Fits.{viewing, roleFits, viewerTold, answerFits}
 use Rattle.rules.specs.Heads.{to, toLevel, toNode, ended, started}
 use Rattle.rules.specs.Steps.{Step, expected, peeked, byCount}
 use Rattle.rules.specs.Searching as searching
-use Rattle.rules.specs.Searching.{takesNode, wants, viewed}
+use Rattle.rules.specs.Searching.{takesNode, takesNext, viewed}
 use Rattle.rules.specs.Acts.{actBy, act}
 use Rattle.rules.specs.Asked.{question7}
 use Rattle.rules.specs.Operations.{recordOf, memoryOf}
 use Rattle.rules.specs.Lists.{State}
 use Rattle.trie.proofs.Whole.{Worker}
 use Rattle.rules.proofs.Idle.{open-of}
-use Rattle.rules.proofs.Invariant.{WorldOf, views-same, Role, Fine}
+use Rattle.rules.proofs.Invariant.{WorldOf, views-same, HoldsNone, Role, Fine}
 use Rattle.rules.proofs.Tells.{act-tells}
 
 -- the four kinds of a viewer's call
@@ -67,20 +67,20 @@ viewing-kind SetFollow e = absurd (true-false (sym e))
 viewing-kind MoveEnd e = absurd (true-false (sym e))
 viewing-kind Unknown e = absurd (true-false (sym e))
 
--- a viewer's head: of one of these kinds, or idle with one of its answers
-open-role : (k : Kind) (h : Head) → h .kind ≡ k → viewing (kindNo k) ≡ true → kindNo k ≢ 0 → Role true h
+-- a viewer's head: of one of these kinds, or idle with one of its answers; it holds nothing
+open-role : (k : Kind) (h : Head) → h .kind ≡ k → viewing (kindNo k) ≡ true → kindNo k ≢ 0 → HoldsNone h → Role true h
 unfolding roleFits pick
-open-role k h e v z = record { rest = λ y. absurd (z (sym (ap kindNo e) ∙ y)); call = λ y. ap (λ (k : Kind). viewing (kindNo k)) e ∙ v }
+open-role k h e v z o = record { rest = λ y. absurd (z (sym (ap kindNo e) ∙ y)); call = λ y. ap (λ (k : Kind). viewing (kindNo k)) e ∙ v; holds-none = λ y. o }
 
-ended-role : (v : Bool) (a i n : ℕ) (h : Head) → answerFits v a ≡ true → Role v (ended a i n h)
+ended-role : (v : Bool) (a i n : ℕ) (h : Head) → answerFits v a ≡ true → (v ≡ true → (n ≡ 0) × (h .«held_level» ≡ 0)) → Role v (ended a i n h)
 unfolding ended kindNo
-ended-role v a i n h e = record { rest = λ y. e; call = λ y. absurd (y refl) }
+ended-role v a i n h e o = record { rest = λ y. e; call = λ y. absurd (y refl); holds-none = o }
 
 -- a start
-pub start-role : (v : Bool) (p : ℕ) (h : Head) → Role v (started p h)
+pub start-role : (v : Bool) (p : ℕ) (h : Head) → Role v h → Role v (started p h)
 unfolding started roleFits viewing kindNo pick
-start-role true p h = record { rest = λ y. absurd (omega arith); call = λ y. refl }
-start-role false p h = record { rest = λ y. absurd (omega arith); call = λ y. refl }
+start-role true p h r = record { rest = λ y. absurd (omega arith); call = λ y. refl; holds-none = r .holds-none }
+start-role false p h r = record { rest = λ y. absurd (omega arith); call = λ y. refl; holds-none = r .holds-none }
 
 pub of-viewer : (k : ℕ) → roleFits true k ≡ true → viewing k ≡ true
 unfolding roleFits pick
@@ -106,11 +106,11 @@ takes-open k t z = by (kindNo k) z t
 -- "full": no viewer is about to take a node
 pub full-role : (v : Bool) (n : ℕ) (h : Head) → takesNode (h .kind) ≡ true → Role v h → Role v (ended 3 0 n h)
 unfolding answerFits pick
-full-role false n h t r = ended-role false 3 0 n h refl
+full-role false n h t r = ended-role false 3 0 n h refl (λ y. absurd (true-false (sym y)))
 full-role true n h t r = absurd (takes-not (viewing-kind (h .kind) (of-viewer _ (r .call (takes-open (h .kind) t)))) t)
 
 -- a viewer's turn
-module _ (w : ℕ) (s : Settings) (h : Head) (m : Memory) where
+module _ (w : ℕ) (s : Settings) (h : Head) (m : Memory) (o : HoldsNone h) where
   abbrev Stays : Step → Type 0
   Stays t = Role true (t .record′ .head)
 
@@ -118,28 +118,28 @@ module _ (w : ℕ) (s : Settings) (h : Head) (m : Memory) where
   unfolding searching.met searching.metNode toNode toLevel answerFits viewerTold viewing kindNo pick
   met-role c g word =
       pick-both Stays (isNode word)
-      (λ e. pick-both Stays (eqb _ (h .pixel)) (λ q. ended-role true 2 _ _ h refl) (λ q. open-role Tail _ refl refl (λ z. omega arith)))
-      (λ e. open-role Look _ refl refl (λ z. omega arith))
+      (λ e. pick-both Stays (eqb _ (h .pixel)) (λ q. ended-role true 2 _ _ h refl (λ y. o)) (λ q. open-role Tail _ refl refl (λ z. omega arith) o))
+      (λ e. open-role Look _ refl refl (λ z. omega arith) o)
 
   -- the next kind, by whether it is one that places
   abbrev Next : Kind → Type 0
   Next k = Stays (viewed true s (to k h) m)
 
-  absent-so : (k : Kind) → wants k ≡ true → Next k
+  absent-so : (k : Kind) → takesNext k ≡ true → Next k
   unfolding viewed to both answerFits viewerTold pick
-  absent-so k e = pick-both Stays (wants k) (λ y. ended-role true 5 0 _ _ refl) (λ y. absurd (true-false (sym e ∙ y)))
+  absent-so k e = pick-both Stays (takesNext k) (λ y. ended-role true 5 0 _ _ refl (λ z. o)) (λ y. absurd (true-false (sym e ∙ y)))
 
-  goes-so : (k : Kind) → wants k ≡ false → viewing (kindNo k) ≡ true → kindNo k ≢ 0 → Next k
+  goes-so : (k : Kind) → takesNext k ≡ false → viewing (kindNo k) ≡ true → kindNo k ≢ 0 → Next k
   unfolding viewed to both pick
-  goes-so k e v z = pick-both Stays (wants k) (λ y. absurd (true-false (sym y ∙ e))) (λ y. open-role k _ refl v z)
+  goes-so k e v z = pick-both Stays (takesNext k) (λ y. absurd (true-false (sym y ∙ e))) (λ y. open-role k _ refl v z o)
 
   count-role : (c : ℕ) → Next (byCount s c TakeTail Level Follow)
-  unfolding byCount wants takesNode viewing kindNo pick
+  unfolding byCount takesNext takesNode viewing kindNo pick
   count-role c =
       pick-both Next (ltb c (s .limit)) (λ e. absent-so TakeTail refl) (λ e. pick-both Next (eqb c (s .limit)) (λ f. absent-so Level refl) (λ f. goes-so Follow refl refl (λ z. omega arith)))
 
   viewer-role : {k : Kind} (ms : List Move) → Viewing k → Stays (actBy k w true s h ms m)
-  unfolding actBy searching.look searching.tail searching.read searching.readWord searching.follow searching.followWord peeked wants takesNode viewing kindNo pick
+  unfolding actBy searching.look searching.tail searching.read searching.readWord searching.follow searching.followWord peeked takesNext takesNode viewing kindNo pick
   viewer-role ms at-look = pick-both Next (expected h _) (λ e. absent-so Take refl) (λ e. goes-so Read refl refl (λ z. omega arith))
   viewer-role ms at-read = met-role _ _ _
   viewer-role ms at-tail = pick-both Next (expected h _) (λ e. count-role _) (λ e. goes-so Follow refl refl (λ z. omega arith))
@@ -156,8 +156,8 @@ any-kind k = refl
 -- a turn
 pub act-role : (w : ℕ) (v : Bool) (s : Settings) (r : Record) (m : Memory) → question7 r ≡ false → Role v (r .head) → Role v (act w v s r m .record′ .head)
 unfolding act question7
-act-role w true s r m b p = viewer-role w s (r .head) m (r .moves) (viewing-kind (r .head .kind) (of-viewer _ (p .call (eqb-false _ _ b))))
-act-role w false s r m b p = record { rest = λ z. low-fits (act-tells w false s r m (open-of r b) .low refl z); call = λ z. any-kind _ }
+act-role w true s r m b p = viewer-role w s (r .head) m (p .holds-none refl) (r .moves) (viewing-kind (r .head .kind) (of-viewer _ (p .call (eqb-false _ _ b))))
+act-role w false s r m b p = record { rest = λ z. low-fits (act-tells w false s r m (open-of r b) .low refl z); call = λ z. any-kind _; holds-none = λ z. absurd (true-false (sym z)) }
 
 -- of worker i, in a state that is fine
 pub turn-role : {w : ℕ} {s₀ : Settings} {x : State} {W : WorldOf w s₀} {ws : ℕ → Worker} (F : Fine w s₀ x W ws) (i : ℕ) → i < s₀ .workers → question7 (recordOf (x .areas) i) ≡ false → Role (views s₀ i) (act w (views (x .settings) i) (x .settings) (recordOf (x .areas) i) (memoryOf (x .areas)) .record′ .head)

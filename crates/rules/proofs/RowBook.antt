@@ -10,7 +10,7 @@ use native.Mathlib.Omega.{arith}
 use Rattle.record.specs.declared.Answer.the-variants.{New, Full}
 use Rattle.rules.specs.Calls.{Call, Book, Holds, HasPixel, Reads, ReadsRow, done, then, InOrder, empty, first}
 use Rattle.rules.specs.Calls as calls
-use Rattle.rules.specs.Consequences.{Places}
+use Rattle.rules.specs.Consequences.{Names}
 
 pub run-append : {b b₁ b₂ : Book} {xs ys : List Call} → ReadsRow b xs b₁ → ReadsRow b₁ ys b₂ → ReadsRow b (xs ++ ys) b₂
 run-append (done e) r = rw (← e) r
@@ -53,22 +53,22 @@ run-keeps (done e) i = rw e i
 run-keeps (then a r) i = run-keeps r (read-keeps a i)
 
 -- the pixel and the node of a "new" or a "found" are in the book
-pub read-places : {b b′ : Book} {c : Call} {n : ℕ} → Reads b c b′ → Places c n → Holds b′ (c .pixel) n
-read-places {b} {c = c} {n = n} (calls.new m q o f is) (inl a) = let e : m ≡ n = cc in rw (is, e) (Memᴰ·append-right b (List·Memᴰ·head refl))
-read-places (calls.new m q o f is) (inr a) = let y : _≡_ {A = ℕ} 0 1 = cc in absurd (omega arith)
-read-places (calls.found m q i is) (inl a) = let y : _≡_ {A = ℕ} 0 1 = cc in absurd (omega arith)
-read-places {n = n} (calls.found m q i is) (inr a) = let e : m ≡ n = cc in rw is (rw e at i)
-read-places (calls.full q o is) (inl a) = let y : _≡_ {A = ℕ} 0 1 = cc in absurd (omega arith)
-read-places (calls.full q o is) (inr a) = let y : _≡_ {A = ℕ} 0 1 = cc in absurd (omega arith)
-read-places (calls.absent q o is) (inl a) = let y : _≡_ {A = ℕ} 0 1 = cc in absurd (omega arith)
-read-places (calls.absent q o is) (inr a) = let y : _≡_ {A = ℕ} 0 1 = cc in absurd (omega arith)
+pub read-names : {b b′ : Book} {c : Call} {n : ℕ} → Reads b c b′ → Names c n → Holds b′ (c .pixel) n
+read-names {b} {c = c} {n = n} (calls.new m q o f is) (inl a) = let e : m ≡ n = cc in rw (is, e) (Memᴰ·append-right b (List·Memᴰ·head refl))
+read-names (calls.new m q o f is) (inr a) = let y : _≡_ {A = ℕ} 0 1 = cc in absurd (omega arith)
+read-names (calls.found m q i is) (inl a) = let y : _≡_ {A = ℕ} 0 1 = cc in absurd (omega arith)
+read-names {n = n} (calls.found m q i is) (inr a) = let e : m ≡ n = cc in rw is (rw e at i)
+read-names (calls.full q o is) (inl a) = let y : _≡_ {A = ℕ} 0 1 = cc in absurd (omega arith)
+read-names (calls.full q o is) (inr a) = let y : _≡_ {A = ℕ} 0 1 = cc in absurd (omega arith)
+read-names (calls.absent q o is) (inl a) = let y : _≡_ {A = ℕ} 0 1 = cc in absurd (omega arith)
+read-names (calls.absent q o is) (inr a) = let y : _≡_ {A = ℕ} 0 1 = cc in absurd (omega arith)
 
-pub places-in : {b b′ : Book} {cs : List Call} → ReadsRow b cs b′ → (c : Call) (n : ℕ) → List·Memᴰ c cs → Places c n → Holds b′ (c .pixel) n
-places-in (done e) c n i a = absurd (List·Memᴰ·not-nil i)
-places-in {b} {b′} (then {b₁ = b₁} {c = d} {cs = cs} k r) c n i a = by (List·Memᴰ·cases-cons i) (λ j. places-in r c n j a)
+pub names-in : {b b′ : Book} {cs : List Call} → ReadsRow b cs b′ → (c : Call) (n : ℕ) → List·Memᴰ c cs → Names c n → Holds b′ (c .pixel) n
+names-in (done e) c n i a = absurd (List·Memᴰ·not-nil i)
+names-in {b} {b′} (then {b₁ = b₁} {c = d} {cs = cs} k r) c n i a = by (List·Memᴰ·cases-cons i) (λ j. names-in r c n j a)
   where
     by : (c ≡ d) ⊎ List·Memᴰ c cs → (List·Memᴰ c cs → Holds b′ (c .pixel) n) → Holds b′ (c .pixel) n
-    by (inl e) f = rw e (run-keeps r (read-places k (rw e at a)))
+    by (inl e) f = rw e (run-keeps r (read-names k (rw e at a)))
     by (inr j) f = f j
 
 -- No call stands after one that started when it had already ended

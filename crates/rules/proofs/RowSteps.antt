@@ -18,7 +18,7 @@ use Rattle.trie.proofs.Place.{place, CanPlace, place-grows}
 use Rattle.record.specs.declared.Answer.{Answer}
 use Rattle.record.specs.declared.Answer.the-variants.{New, Found, Full, Absent}
 use Rattle.rules.specs.Calls.{Call, Book, HasPixel}
-use Rattle.rules.proofs.RowBook.{RowOk, Since, row-append, places-in}
+use Rattle.rules.proofs.RowBook.{RowOk, Since, row-append, names-in}
 use Rattle.rules.proofs.RowEnds.{pairs, pairs-stay, bookOf, ends-new, ends-found, ends-absent, ends-full}
 use Rattle.trie.proofs.Whole.{idle, Worker}
 
@@ -85,7 +85,7 @@ unfolding Since
 rowed-start {δ} {w} {workers} {row} {now} {starts} R i c e = record { rows = row-later refl (R .rows); open-calls = λ j b. by j b (ℕ-discrete j i) }
   where
     fresh : Open w c row (suc now) now
-    fresh = record { begun = omega arith; within = omega arith; since = λ d n k a l. rw (e, take-length (w .book)) (n, places-in (R .rows .run) d n k (inl a)) }
+    fresh = record { begun = omega arith; within = omega arith; since = λ d n k a l. rw (e, take-length (w .book)) (n, names-in (R .rows .run) d n k (inl a)) }
 
     by : (j : ℕ) → upd workers i c j .act ≢ idle → Dec (j ≡ i) → Open w (upd workers i c j) row (suc now) (upd starts i now j)
     by j b (yes q) = rw (q, upd-same workers i c, upd-same starts i now) fresh

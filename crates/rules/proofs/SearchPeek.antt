@@ -16,7 +16,7 @@ use Rattle.record.specs.Kinds.{kindNo}
 use Rattle.record.specs.Layout.{Record}
 use Rattle.rules.specs.Heads.{to, ended}
 use Rattle.rules.specs.Steps.{step, going, expected, peeked, byCount}
-use Rattle.rules.specs.Searching.{entryOf, takesNode, wants, viewed, look, tail}
+use Rattle.rules.specs.Searching.{entryOf, takesNode, takesNext, viewed, look, tail}
 use Rattle.rules.specs.Acts.{actBy}
 use Rattle.rules.specs.Asked.{readsBy, readsRef, looks, tails}
 use Rattle.trie.proofs.Advance.{dooming-read}
@@ -77,14 +77,14 @@ module _ {w : ℕ} {s₀ s : Settings} {m : Memory} {W : WorldOf w s₀} {ws : �
   -- the next kind, of a viewer or of another worker
   viewed-here : {x : Pos} (looks : Bool) (o : Searcher a (peek H x) H x) (k : Kind) → word W (ws i .key) H x ≡ levelRef H → TurnOk w s₀ W ws i (going s (to k (r .head)) [] m) → TurnOk w s₀ W ws i (viewed looks s (to k (r .head)) m)
   unfolding viewed
-  viewed-here looks o k q t = pick-both (TurnOk w s₀ W ws i) (both looks (wants (to k (r .head) .kind))) (λ e. ends-so o k q) (λ e. t)
+  viewed-here looks o k q t = pick-both (TurnOk w s₀ W ws i) (both looks (takesNext (to k (r .head) .kind))) (λ e. ends-so o k q) (λ e. t)
 
-  viewed-other : {x : Pos} (looks : Bool) (o : Searcher a (peek H x) H x) (k : Kind) → wants k ≡ false → TurnOk w s₀ W ws i (going s (to k (r .head)) [] m) → TurnOk w s₀ W ws i (viewed looks s (to k (r .head)) m)
+  viewed-other : {x : Pos} (looks : Bool) (o : Searcher a (peek H x) H x) (k : Kind) → takesNext k ≡ false → TurnOk w s₀ W ws i (going s (to k (r .head)) [] m) → TurnOk w s₀ W ws i (viewed looks s (to k (r .head)) m)
   unfolding viewed to
-  viewed-other looks o k n t = pick-both (TurnOk w s₀ W ws i) (both looks (wants k)) (λ e. absurd (true-false (sym (both-right looks _ e) ∙ n))) (λ e. t)
+  viewed-other looks o k n t = pick-both (TurnOk w s₀ W ws i) (both looks (takesNext k)) (λ e. absurd (true-false (sym (both-right looks _ e) ∙ n))) (λ e. t)
 
   pub peek-turn : (looks : Bool) (x : Pos) → Searcher a (peek H x) H x → TurnOk w s₀ W ws i (actBy (searchKind (peek H x)) w looks s (r .head) (r .moves) m)
-  unfolding actBy look tail peeked cellAt entryOf wants takesNode kindNo pick
+  unfolding actBy look tail peeked cellAt entryOf takesNext takesNode kindNo pick
   peek-turn looks at-entry o =
       pick-both (λ k. TurnOk w s₀ W ws i (viewed looks s (to k (r .head)) m)) (expected (r .head) _)
       (λ e. let q = here-reads a (standing o) e in viewed-here looks o Take q (goes-fetch o q (limit-pos a)))

@@ -85,7 +85,7 @@ module _ {w : ℕ} {s₀ : Settings} {x : State} {W : WorldOf w s₀} {ws : ℕ 
         holds-node = F .inv .each i .holds-node;
         holds-level = F .inv .each i .holds-level;
       }) in
-      fine-after F i here (F .table) I (levels-stay (F .levels) i here starter (grows-refl W) refl) (record { pixel-is = refl; node-is = K .node-is; level-is = K .level-is; doing = searches refl refl (peeks refl entry) }) (start-role (views s₀ i) (pixelNumber row column) (recordOf (x .areas) i .head))
+      fine-after F i here (F .table) I (levels-stay (F .levels) i here starter (grows-refl W) refl) (record { pixel-is = refl; node-is = K .node-is; level-is = K .level-is; doing = searches refl refl (peeks refl entry) }) (start-role (views s₀ i) (pixelNumber row column) (recordOf (x .areas) i .head) (F .roles i here))
 
 module _ {w : ℕ} {s₀ : Settings} {x : State} {k : ℕ} {os : List Opened} {cs : List Call} (a : Along w s₀ x k os cs) (looks : Bool) (i row column : ℕ) where
   pub opened-start : StartYes w (x .settings) looks i row column x → Along w s₀ (state (x .settings) (startedAreas i row column (x .areas))) (suc k) (record { worker = i; index = k; pixel = pixelNumber row column } ∷ os) cs

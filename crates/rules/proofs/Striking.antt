@@ -2,7 +2,7 @@
 -- Relies on the records of the invariant, on the laws of load and store, on demand 1.
 use Prim.Native.Nat.{ℕ, zero, suc, _*_, _+_, _-_, _≤_, _<_}
 use mathlib.Core.Path.{_≡_, refl, sym, ap, ap₂, subst, _∙_}
-use mathlib.Core.Logic.{_≢_, _⊎_, inl, inr}
+use mathlib.Core.Logic.{_⊎_, inl, inr}
 use mathlib.Core.Bool.{Bool, true, false}
 use mathlib.Core.List.{List, [], _∷_}
 use native.Mathlib.Decide.{ℕ-discrete}
@@ -10,10 +10,10 @@ use native.Mathlib.Omega.{arith}
 use lib.Dec.{eqb}
 use lib.ListN.{getD, length, set, length-set}
 use lib.Seq.{sets}
-use borrow.Author.Tests.{ltb-true, ltb-false, leb-true, leb-false, eqb-false}
-use Rattle.words.specs.Choice.{pick, both, Question, firstNo}
-use Rattle.words.proofs.Choice.{pick-true, pick-false, pick-both, both-left, both-right}
-use Rattle.settings.specs.Sizes.{workerWords, maxMoves, views}
+use borrow.Author.Tests.{ltb-true, leb-true, leb-false, eqb-false}
+use Rattle.words.specs.Choice.{pick, both, firstNo}
+use Rattle.words.proofs.Choice.{pick-both, both-left, both-right}
+use Rattle.settings.specs.Sizes.{workerWords, views}
 use Rattle.settings.specs.declared.Settings.{Settings}
 use Rattle.areas.specs.Memory.{Areas, areas, Memory, memory, isNode}
 use Rattle.record.specs.declared.Kind.{Kind}
@@ -23,7 +23,7 @@ use Rattle.record.specs.declared.Head.{Head}
 use Rattle.record.specs.declared.Move.{Move}
 use Rattle.record.specs.Kinds.{kindNo}
 use Rattle.record.specs.Fits.{roleFits}
-use Rattle.record.specs.Layout.{Record, record′, headList, load, store, storeHead, storeMoves, moveTo, workerPlace, movesAt}
+use Rattle.record.specs.Layout.{Record, record′, headList, load, store, storeHead, storeMoves, moveTo, workerPlace}
 use Rattle.record.proofs.Records.{WellFormed, length-store, store-outside, load-same}
 use Rattle.record.proofs.Apart.{place-next}
 use Rattle.record.proofs.Apart as outside
@@ -37,7 +37,7 @@ use Rattle.rules.specs.Lists.{State, state}
 use Rattle.rules.specs.Calls.{Event, starts, turns, happens, Happened, history, stateAfter, Call, Opened}
 use Rattle.rules.specs.Refusals.{later}
 use Rattle.rules.specs.Refusals as first
-use Rattle.rules.specs.Striking.{workerOf, ofViewer, struck, struckFrom, Alike, Striking, StrikingStatement}
+use Rattle.rules.specs.Striking.{workerOf, ofViewer, struck, struckFrom, Alike, StrikingStatement}
 use Rattle.trie.proofs.Whole.{Worker}
 use Rattle.rules.proofs.Carried.{start-done, opening-done}
 use Rattle.rules.proofs.Refused.{refuses-start, refuses-opening}
@@ -102,17 +102,17 @@ move-agree : {k : ℕ} (v : Move) (p : ℕ) (l l′ : List ℕ) → Agree k l l�
 unfolding moveTo
 move-agree v p l l′ a = sets-agree (v .nodes) _ _ (p + 3) (sets-agree (v .home ∷ v .child ∷ v .count ∷ []) l l′ p a)
 
-moves-agree : {k : ℕ} (w : ℕ) (ms : List Move) (i : ℕ) (l l′ : List ℕ) → Agree k l l′ → Agree k (storeMoves ms i l) (storeMoves ms i l′)
+moves-agree : {k : ℕ} (ms : List Move) (i : ℕ) (l l′ : List ℕ) → Agree k l l′ → Agree k (storeMoves ms i l) (storeMoves ms i l′)
 unfolding storeMoves
-moves-agree w [] i l l′ a = a
-moves-agree w (v ∷ ms) i l l′ a = moves-agree w ms i _ _ (move-agree v _ l l′ a)
+moves-agree [] i l l′ a = a
+moves-agree (v ∷ ms) i l l′ a = moves-agree ms i _ _ (move-agree v _ l l′ a)
 
-store-agree : {k : ℕ} (w : ℕ) (r : Record) (i : ℕ) (l l′ : List ℕ) → Agree k l l′ → Agree k (store r i l) (store r i l′)
+store-agree : {k : ℕ} (r : Record) (i : ℕ) (l l′ : List ℕ) → Agree k l l′ → Agree k (store r i l) (store r i l′)
 unfolding store storeHead
-store-agree w r i l l′ a = moves-agree w (r .moves) i _ _ (sets-agree (headList (r .head) (length (r .moves))) l l′ (workerPlace i) a)
+store-agree r i l l′ a = moves-agree (r .moves) i _ _ (sets-agree (headList (r .head) (length (r .moves))) l l′ (workerPlace i) a)
 
-place-le : (w : ℕ) {p i : ℕ} → p ≤ i → workerWords * p ≤ workerWords * i
-place-le w {p} {i} h = by (ℕ-discrete p i)
+place-le : {p i : ℕ} → p ≤ i → workerWords * p ≤ workerWords * i
+place-le {p} {i} h = by (ℕ-discrete p i)
   where
     by : Dec (p ≡ i) → workerWords * p ≤ workerWords * i
     by (yes e) = rw e (omega arith)
@@ -141,7 +141,7 @@ module _ {w : ℕ} {s₀ : Settings} {x : State} {k : ℕ} {os : List Opened} {c
   -- its own words alone
   own-words : (r : Record) → WellFormed r → (j : ℕ) → (j < workerWords * (s₀ .workers - s₀ .viewers)) ⊎ (workerWords * s₀ .workers ≤ j) → getD (x .areas .workers) j 0 ≡ getD (store r i (x .areas .workers)) j 0
   unfolding workerPlace
-  own-words r f j (inl h) = let p = place-le w first-viewer in sym (store-outside w r i (x .areas .workers) f j (outside.before (omega arith)))
+  own-words r f j (inl h) = let p = place-le first-viewer in sym (store-outside w r i (x .areas .workers) f j (outside.before (omega arith)))
   own-words r f j (inr h) = let p = place-next here in sym (store-outside w r i (x .areas .workers) f j (outside.after (omega arith)))
 
   own : (r : Record) → WellFormed r → Alike s₀ (state (x .settings) (areas (x .areas .nodes) (x .areas .levels) (store r i (x .areas .workers)))) x
@@ -229,7 +229,7 @@ module _ {w : ℕ} {s₀ : Settings} {x y : State} {k k′ : ℕ} {os os′ : Li
           nodes-same = refl;
           levels-same = refl;
           size-same = length-store w r i (y .areas .workers) ∙ (L .size-same ∙ sym (length-store w r i (x .areas .workers)));
-          words-same = λ j h. store-agree w r i (x .areas .workers) (y .areas .workers) (record { size = L .size-same; word = L .words-same j h }) .word;
+          words-same = λ j h. store-agree r i (x .areas .workers) (y .areas .workers) (record { size = L .size-same; word = L .words-same j h }) .word;
         }
 
     -- y with the settings, nodes and levels of x

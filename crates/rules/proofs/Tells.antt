@@ -96,7 +96,7 @@ module _ (w : ℕ) (v : Bool) (s : Settings) (h : Head) where
   viewed-tells k m o = by v
     where
       by : (u : Bool) → Tells u (searching.viewed u s (to k h) m)
-      by true = pick-both (Tells true) (searching.wants k) (λ e. absent-tells s _ (to k h) m) (λ e. open-tells true s (to k h) [] m o)
+      by true = pick-both (Tells true) (searching.takesNext k) (λ e. absent-tells s _ (to k h) m) (λ e. open-tells true s (to k h) [] m o)
       by false = open-tells false s (to k h) [] m o
 
   search-tells : (word : ℕ) (a b : Kind) (m : Memory) → 1 ≤ kindNo a → 1 ≤ kindNo b → Tells v (searching.viewed v s (peeked h word a b) m)

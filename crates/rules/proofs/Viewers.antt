@@ -1,10 +1,10 @@
--- A viewer's turn answers "open", "found" or "absent" and changes its own record alone; "absent" is given to viewers alone.
--- Relies on what a turn was asked, on the kinds of a viewer's call and on what the record tells.
-use Prim.Native.Nat.{ℕ}
+-- A viewer's turn answers "open", "found" or "absent" and changes its own record alone; along a sequence that holds nothing; "absent" is given to viewers alone.
+-- Relies on what a turn was asked, on the kinds of a viewer's call, on what the record tells and on the roles along a sequence.
+use Prim.Native.Nat.{ℕ, _<_}
 use mathlib.Core.Path.{_≡_, refl, sym, ap, subst, _∙_}
 use mathlib.Core.Logic.{_≢_}
 use mathlib.Core.Bool.{Bool, true, false, not}
-use mathlib.Core.List.{List}
+use mathlib.Core.List.{List, []}
 use native.Mathlib.Decide.{ℕ-discrete}
 use native.Mathlib.Omega.{arith}
 use lib.Dec.{eqb}
@@ -16,15 +16,16 @@ use Rattle.record.specs.declared.Answer.the-variants.{Nothing, Full, Absent}
 use Rattle.record.specs.declared.Head.{Head}
 use Rattle.record.specs.declared.Kind.{Kind}
 use Rattle.record.specs.declared.Move.{Move}
-use Rattle.record.specs.Kinds.{kindNo}
 use Rattle.record.specs.Layout.{Record}
 use Rattle.record.specs.Fits.{fits, fitsBy}
 use Rattle.rules.specs.Asked.{question6, question7, question8}
 use Rattle.rules.specs.Steps.{Step}
 use Rattle.rules.specs.Searching as searching
 use Rattle.rules.specs.Acts.{act, actBy}
-use Rattle.rules.specs.Operations.{Result, recordOf, memoryOf, taken, full, refused, turn}
-use Rattle.rules.specs.Viewers.{ToViewer, OnlyLooks, ViewersLook, AbsentToViewers}
+use Rattle.rules.specs.Operations.{AtWidth, Result, recordOf, memoryOf, taken, full, turn}
+use Rattle.rules.specs.Lists.{State}
+use Rattle.rules.specs.Calls.{Event, stateAfter}
+use Rattle.rules.specs.Viewers.{ToViewer, OnlyLooks, ViewersLook, AbsentToViewers, HoldsNothing}
 use Rattle.rules.specs.Viewers as viewers
 use Rattle.rules.proofs.Questions.{last-no}
 use Rattle.rules.proofs.OneTurn.{turn-number, done-number, nine-is-full, turn-refused}
@@ -33,6 +34,14 @@ use Rattle.rules.proofs.Ending.{none-left}
 use Rattle.rules.proofs.Roles.{Viewing, at-look, at-read, at-tail, at-follow, viewing-kind, of-viewer, takes-not}
 use Rattle.rules.proofs.Striking.{viewer-still}
 use Rattle.rules.proofs.Tells.{act-tells}
+use Rattle.rules.proofs.Dims.{Width}
+use Rattle.rules.proofs.Carried.{opening-done}
+use Rattle.rules.proofs.Refused.{refuses-opening}
+use Rattle.rules.proofs.Invariant.{HoldsNone}
+use Rattle.rules.proofs.Along.{Along}
+use Rattle.rules.proofs.Opened.{along-opened}
+use Rattle.rules.proofs.Sequence.{run-along}
+use Rattle.rules.proofs.Theorem.{opening-yes, opened-width}
 
 -- the answer of a viewer's turn
 module _ (w : ℕ) (s : Settings) (h : Head) (m : Memory) where
@@ -75,13 +84,12 @@ module _ (w : ℕ) (s : Settings) (i : ℕ) (a : Areas) (view : views s i ≡ tr
         levels-stay = ap (λ (m : Memory). m .levels) (t .memory-is);
       }
 
-  never-nine : turn w s i a .reply .number ≢ 9
+  pub never-nine : turn w s i a .reply .number ≢ 9
   never-nine z =
       let y = turn-asked w s i a (λ k l u e. omega arith) (sym (turn-number w s i a) ∙ z) in
       takes-not (at-kind y) (none-left s (recordOf a i) (last-no 9 _ (λ e. omega arith) (y .nine)) .taking)
 
   looks-only : OnlyLooks s a (turn w s i a)
-  unfolding refused
   looks-only = by (ℕ-discrete (turn w s i a .reply .number) 0)
     where
       by : Dec (turn w s i a .reply .number ≡ 0) → OnlyLooks s a (turn w s i a)
@@ -93,7 +101,7 @@ viewers-look w s i a v = looks-only w s i a v
 
 module _ (w : ℕ) (s : Settings) (i : ℕ) (a : Areas) where
   said-absent : turn w s i a .reply .answer ≡ Absent → views s i ≡ true
-  unfolding taken full refused question8
+  unfolding taken full question8
   said-absent e = by (ℕ-discrete (turn w s i a .reply .number) 0) (ℕ-discrete (turn w s i a .reply .number) 9)
     where
       told : {r : Result} → turn w s i a ≡ r → r .reply .answer ≡ Absent
@@ -108,3 +116,17 @@ module _ (w : ℕ) (s : Settings) (i : ℕ) (a : Areas) where
 
 pub absent-to-viewers : (w : ℕ) → AbsentToViewers w
 absent-to-viewers w s i a e = said-absent w s i a e
+
+-- from a state that holds what an opening leaves
+holds-none-of : {w : ℕ} {s₀ : Settings} {x : State} → Along w s₀ x 0 [] [] → (es : List Event) (i : ℕ) → i < s₀ .workers → views s₀ i ≡ true → HoldsNone (recordOf (stateAfter w es x .areas) i .head)
+holds-none-of {x = x} a es i h v = run-along es x 0 [] [] a .along .fine .roles i h .holds-none v
+
+-- over every width whose digits fit the pixel numbers
+pub hold-nothing : (w : ℕ) → Width w → (s : Settings) → HoldsNothing w s
+hold-nothing w width s a z =
+    let y = refuses-opening w s a .numbered .carried .0 z in
+    rw (opening-done w s a z) (holds-none-of (along-opened width s a (opening-yes w s a y .0) (opening-yes w s a y .1)))
+
+-- document 02's tables, each at the width that its settings give
+pub hold-nothing-all : AtWidth HoldsNothing
+hold-nothing-all s a z = hold-nothing (s .width) (opened-width (s .width) s a z) s a z

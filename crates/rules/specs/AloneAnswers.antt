@@ -1,4 +1,4 @@
--- A placing call that starts with no spare node and has all turns to itself: its answer by the pixels placed before, and what it leaves.
+-- A placing call that starts with no spare node and has all turns to itself: its answer by the pixels placed before, and what it leaves. A viewer's call: its answer.
 -- Relies on the run of a call alone and on what is shown from the root.
 use Prim.Native.Nat.{ℕ, suc, _<_}
 use mathlib.Core.Path.{_≡_}
@@ -8,7 +8,7 @@ use mathlib.Core.List.{List, _∷_, _++_}
 use Rattle.words.specs.Digits.{pixelNumber}
 use Rattle.settings.specs.declared.Settings.{Settings}
 use Rattle.areas.specs.Memory.{Areas}
-use Rattle.record.specs.declared.Answer.the-variants.{New, Found, Full}
+use Rattle.record.specs.declared.Answer.the-variants.{New, Found, Full, Absent}
 use Rattle.rules.specs.Asked.{question5, question17, question7}
 use Rattle.rules.specs.Operations.{Result, recordOf, opening, start}
 use Rattle.rules.specs.Lists.{State, after}
@@ -77,3 +77,19 @@ ReachesStatement w s =
     → (k : ℕ)
     × (stateAfter w (es ++ starts looks i row column ∷ turnsOf i k) (after (opening w s a))
     ≡ after (runAlone w (aloneTurns w s) i (after (start w (stateAfter w es (after (opening w s a)) .settings) looks i row column (stateAfter w es (after (opening w s a)) .areas)))))
+
+-- what the last turn of a viewer's call for pixel p, which started in state x and has all turns to itself, gives; it leaves settings, nodes and levels (Viewers.ViewersLook)
+pub data ViewsAlone (w p : ℕ) (x : State) (r : Result) : Type 0 where
+  -- excludes: a viewer's call alone that ends "absent" for a placed pixel, or names another node
+  finds : (n : ℕ) → Shown w x p n → r .reply .answer ≡ Found n → ViewsAlone w p x r
+  -- excludes: a viewer's call alone that names a node for a pixel that is not placed; one that ends "full" where no node is left
+  misses : NotShown w x p → r .reply .answer ≡ Absent → ViewsAlone w p x r
+
+-- for every state x that a sequence reaches, and every looking start in it that is carried out
+abbrev pub ViewsStatement : ℕ → Settings → Type 0
+ViewsStatement w s =
+    (a : Areas) → opening w s a .reply .number ≡ 0
+    → (es : List Event) (i row column : ℕ)
+    → start w (stateAfter w es (after (opening w s a)) .settings) true i row column (stateAfter w es (after (opening w s a)) .areas) .reply .number ≡ 0
+    → ViewsAlone w (pixelNumber row column) (stateAfter w es (after (opening w s a)))
+    (runAlone w (aloneTurns w s) i (after (start w (stateAfter w es (after (opening w s a)) .settings) true i row column (stateAfter w es (after (opening w s a)) .areas))))

@@ -12,13 +12,13 @@ use Rattle.rules.specs.Reached.{Reached}
 use Rattle.rules.specs.Calls.{Event, history, stateAfter, Call, calls, Holds}
 use Rattle.rules.specs.Demands.{Row}
 
--- the call places its pixel at node n: it says "new" or "found" with n
-abbrev pub Places : Call → ℕ → Type 0
-Places c n = (c .answer ≡ New n) ⊎ (c .answer ≡ Found n)
+-- the call names node n for its pixel: "new", which places it, or "found", a viewer's too, which finds it placed
+abbrev pub Names : Call → ℕ → Type 0
+Names c n = (c .answer ≡ New n) ⊎ (c .answer ≡ Found n)
 
--- no call of the list places pixel p
-abbrev pub NonePlaces : List Call → ℕ → Type 0
-NonePlaces cs p = (d : Call) (n : ℕ) → List·Memᴰ d cs → d .pixel ≡ p → ¬ (Places d n)
+-- no call of the list names a node for pixel p
+abbrev pub NoneNames : List Call → ℕ → Type 0
+NoneNames cs p = (d : Call) (n : ℕ) → List·Memᴰ d cs → d .pixel ≡ p → ¬ (Names d n)
 
 -- every call of the list for pixel p says "found" with n
 abbrev pub AllFind : List Call → ℕ → ℕ → Type 0
@@ -48,14 +48,16 @@ pub record Consequences {w : ℕ} {x : State} {es : List Event} (R : Row w x es)
   -- a call that has ended stands in the row
   pub in-row : (c : Call) → List·Memᴰ c (calls (history w es x)) → List·Memᴰ c (R .row)
   -- the node that a call said is its pixel's node for good: in the book, and reached with the pixel at the end
-  pub said : (c : Call) (n : ℕ) → List·Memᴰ c (R .row) → Places c n → Holds (R .book) (c .pixel) n × Shown w (stateAfter w es x) (c .pixel) n
-  -- "new" is said once for a pixel: no call before it placed the pixel, and every call for the pixel after it says "found" with its node
-  pub new-first : (pre post : List Call) (c : Call) (n : ℕ) → R .row ≡ pre ++ c ∷ post → c .answer ≡ New n → NonePlaces pre (c .pixel) × AllFind post (c .pixel) n
+  pub said : (c : Call) (n : ℕ) → List·Memᴰ c (R .row) → Names c n → Holds (R .book) (c .pixel) n × Shown w (stateAfter w es x) (c .pixel) n
+  -- "new" is said once for a pixel: no call before it named a node for the pixel, and every call for the pixel after it says "found" with its node
+  pub new-first : (pre post : List Call) (c : Call) (n : ℕ) → R .row ≡ pre ++ c ∷ post → c .answer ≡ New n → NoneNames pre (c .pixel) × AllFind post (c .pixel) n
   -- "found" is said after a "new" with the same node
   pub found-after : (pre post : List Call) (c : Call) (n : ℕ) → R .row ≡ pre ++ c ∷ post → c .answer ≡ Found n → NewIn pre (c .pixel) n
   -- "full" is said before its pixel is placed
-  pub full-before : (pre post : List Call) (c : Call) → R .row ≡ pre ++ c ∷ post → c .answer ≡ Full → NonePlaces pre (c .pixel)
+  pub full-before : (pre post : List Call) (c : Call) → R .row ≡ pre ++ c ∷ post → c .answer ≡ Full → NoneNames pre (c .pixel)
   -- so is a viewer's "absent": "Such a call stands in the row before its pixel is placed"
-  pub absent-before : (pre post : List Call) (c : Call) → R .row ≡ pre ++ c ∷ post → c .answer ≡ Absent → NonePlaces pre (c .pixel)
+  -- excludes: a viewer whose Read passes over its pixel's node; one that goes on at the level met and not at the child of H
+  pub absent-before : (pre post : List Call) (c : Call) → R .row ≡ pre ++ c ∷ post → c .answer ≡ Absent → NoneNames pre (c .pixel)
   -- and is not said for a pixel whose "new" or "found" had ended before the viewer's call started
-  pub absent-late : (c d : Call) (n : ℕ) → List·Memᴰ c (R .row) → List·Memᴰ d (R .row) → c .answer ≡ Absent → Places d n → d .pixel ≡ c .pixel → ¬ (d .end < c .start)
+  -- excludes: a viewer that stops at the first node of a chain; one that ends where an entry refers to another level
+  pub absent-late : (c d : Call) (n : ℕ) → List·Memᴰ c (R .row) → List·Memᴰ d (R .row) → c .answer ≡ Absent → Names d n → d .pixel ≡ c .pixel → ¬ (d .end < c .start)

@@ -39,7 +39,8 @@ pub record Row (w : ℕ) (x : State) (es : List Event) : Type 0 where
   pub none-lost : length (calls (history w es x)) ≡ endings (history w es x)
   -- excludes: a machine that answers "full" for a pixel placed before the call started; one that answers "found" before any call that places the pixel has started
   pub in-order : InOrder row
-  -- excludes: a machine that gives two pixels the same node; one that answers "found" with another node than the "new" of the pixel
+  -- excludes: a machine that gives two pixels the same node; one that answers "found" with another node than the "new" of the pixel; one that
+  -- tells a viewer "absent" for a pixel in the book
   pub reads : ReadsRow [] row book
   -- excludes: a machine that answers "new" and writes nothing; one that loses the nodes of a chain that it moves
   pub reached : ReachedIsBook w (stateAfter w es x) book

@@ -34,13 +34,13 @@ pub data Exchanger (w : ℕ) (s : Settings) (h : Head) (ms : List Move) (m : Mem
   set-close : Exchanger w s h ms m SetClose SetFollow (Next (h .node)) (inHand (h .«held_level») (s .«levels_taken»))
 
 -- the turn of a worker with the head h, once its kind is k, beside the turn that it would have were its kind `again`
-pub record Again (w : ℕ) (looks : Bool) (s : Settings) (h : Head) (ms : List Move) (m : Memory) (k again : Kind) (own : Bool) : Type 0 where
+pub record Again (w : ℕ) (v : Bool) (s : Settings) (h : Head) (ms : List Move) (m : Memory) (k again : Kind) (own : Bool) : Type 0 where
   -- excludes: a machine that goes on a turn later; one that goes on from a failed Close at the level met
-  pub acts : act w looks s (record′ (to k h) ms) m ≡ act w looks s (record′ (to again h) ms) m
+  pub acts : act w v s (record′ (to k h) ms) m ≡ act w v s (record′ (to again h) ms) m
   -- "Failed: the node is now spare", "G is spare": it is held as before
   -- excludes: a machine that drops the node after a failed Append; one that gives the level back
-  pub node-held : act w looks s (record′ (to k h) ms) m .record′ .head .«held_node» ≡ h .«held_node»
-  pub level-held : act w looks s (record′ (to k h) ms) m .record′ .head .«held_level» ≡ h .«held_level»
+  pub node-held : act w v s (record′ (to k h) ms) m .record′ .head .«held_node» ≡ h .«held_node»
+  pub level-held : act w v s (record′ (to k h) ms) m .record′ .head .«held_level» ≡ h .«held_level»
   -- "The word a failed exchange gives counts as a reference read for question 6."; and no more is asked, with the most Moves open either. Of a worker that is no
   -- viewer: a viewer's record does not fit with such a kind
   -- excludes: a machine that does not ask the pixel word of the node met; one that refuses a failed SetClose for want of room
@@ -49,5 +49,5 @@ pub record Again (w : ℕ) (looks : Bool) (s : Settings) (h : Head) (ms : List M
 -- where the exchange fails, for every record and memory
 abbrev pub FailedExchange : ℕ → Type 0
 FailedExchange w =
-    (looks : Bool) (s : Settings) (h : Head) (ms : List Move) (m : Memory) (k again : Kind) (x : Cell) (own : Bool)
-    → Exchanger w s h ms m k again x own → expected h (cellAt w m x) ≡ false → Again w looks s h ms m k again own
+    (v : Bool) (s : Settings) (h : Head) (ms : List Move) (m : Memory) (k again : Kind) (x : Cell) (own : Bool)
+    → Exchanger w s h ms m k again x own → expected h (cellAt w m x) ≡ false → Again w v s h ms m k again own

@@ -14,7 +14,7 @@ use Rattle.rules.specs.Operations.{opening, lastAnswer}
 use Rattle.rules.specs.Lists.{State, after}
 use Rattle.rules.specs.Calls.{Event, starts, turns, Happened, history, stateAfter}
 
--- "The turn that answers it "new", "found" or "full" ends it.": the last answer after a turn of the worker itself, by the turn's answer
+-- "The turn that answers it "new", "found" or "full" ends it.", a viewer's "absent" too: the last answer after a turn of the worker itself, by the turn's answer
 unfoldable pub endTold : Answer → Answer → Answer
 endTold Nothing before = before
 endTold (New n) before = New n

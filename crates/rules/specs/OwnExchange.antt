@@ -37,17 +37,17 @@ pub data Makes (w : ℕ) (h : Head) (ms : List Move) (m : Memory) : Kind → Cel
   set-close : Makes w h ms m SetClose (Next (h .node)) (levelRef (h .«held_level» - 1))
 
 -- a worker with the head h and the kind k, whose turn exchanges the cell x to the word b
-pub record Own (w : ℕ) (looks : Bool) (s : Settings) (h : Head) (ms : List Move) (m : Memory) (k : Kind) (x : Cell) (b : ℕ) : Type 0 where
+pub record Own (w : ℕ) (v : Bool) (s : Settings) (h : Head) (ms : List Move) (m : Memory) (k : Kind) (x : Cell) (b : ℕ) : Type 0 where
   -- the cell holds the worker's level: the turn writes b there, and that counts as done
   -- excludes: a count without the exchanges of a Move; a count that looks at another cell than the turn exchanges
-  pub done : expected h (cellAt w m x) ≡ true → (exchangeOf w (record′ (to k h) ms) m ≡ Done) × (act w looks s (record′ (to k h) ms) m .memory ≡ setCell w m x b)
+  pub done : expected h (cellAt w m x) ≡ true → (exchangeOf w (record′ (to k h) ms) m ≡ Done) × (act w v s (record′ (to k h) ms) m .memory ≡ setCell w m x b)
   -- it holds another word: the turn writes nothing, and that counts as failed
   -- excludes: a failed exchange counted as done; a turn that writes in spite of what it met
-  pub failed : expected h (cellAt w m x) ≡ false → (exchangeOf w (record′ (to k h) ms) m ≡ Failed) × (act w looks s (record′ (to k h) ms) m .memory ≡ m)
+  pub failed : expected h (cellAt w m x) ≡ false → (exchangeOf w (record′ (to k h) ms) m ≡ Failed) × (act w v s (record′ (to k h) ms) m .memory ≡ m)
 
 -- for every record and memory
 pub record OwnStatement (w : ℕ) : Type 0 where
-  pub makes : (looks : Bool) (s : Settings) (h : Head) (ms : List Move) (m : Memory) (k : Kind) (x : Cell) (b : ℕ) → Makes w h ms m k x b → Own w looks s h ms m k x b
+  pub makes : (v : Bool) (s : Settings) (h : Head) (ms : List Move) (m : Memory) (k : Kind) (x : Cell) (b : ℕ) → Makes w h ms m k x b → Own w v s h ms m k x b
   -- a kind that makes none counts none
   -- excludes: SetNext or MoveEnd counted as an exchange; a Look that finds its entry used counted as a failed one
   pub others : (h : Head) (ms : List Move) (m : Memory) (k : Kind) → ((x : Cell) (b : ℕ) → Makes w h ms m k x b → ⊥) → exchangeOf w (record′ (to k h) ms) m ≡ None

@@ -54,12 +54,12 @@ unfoldable pub takesNode : Kind → Bool
 takesNode k = pick (eqb (kindNo k) 2) true (eqb (kindNo k) 6)
 
 -- Take, TakeTail or Level comes next: what a placing call goes on to where its pixel is not there
-unfoldable pub wants : Kind → Bool
-wants k = pick (takesNode k) true (eqb (kindNo k) 8)
+unfoldable pub takesNext : Kind → Bool
+takesNext k = pick (takesNode k) true (eqb (kindNo k) 8)
 
 -- the next kind is that of a peeked head; a viewer (v): "Where a worker would go to Take, TakeTail or Level, it ends "absent""
 unfoldable pub viewed : Bool → Settings → Head → Memory → Step
-viewed v s h m = pick (both v (wants (h .kind))) (step Absent s (ended 5 0 (h .«held_node») h) [] m) (going s h [] m)
+viewed v s h m = pick (both v (takesNext (h .kind))) (step Absent s (ended 5 0 (h .«held_node») h) [] m) (going s h [] m)
 
 -- "Look (level H): read K's entry. H: Take. Otherwise: Read."
 unfoldable pub look : ℕ → Bool → Settings → Head → Memory → Step

@@ -44,9 +44,10 @@ pub record Alike (s : Settings) (x y : State) : Type 0 where
 
 pub record Striking (w : ℕ) (s : Settings) (x : State) (es : List Event) : Type 0 where
   -- "every other worker's answers": all that their starts and turns gave back
-  -- excludes: a viewer that takes a node, or leaves one spare; one whose turn moves a chain
+  -- excludes: a viewer that takes a node; one whose turn moves a chain
   pub replies : history w (struck s es) x ≡ struckFrom s (history w es x)
   -- "all nodes and all levels", and the settings and the other workers' words
+  -- excludes: a viewer that fills the next node without taking it; one that writes into an idle worker's record
   pub states : Alike s (stateAfter w es x) (stateAfter w (struck s es) x)
 
 -- for every carried out opening with the settings s and every sequence of starts and turns

@@ -1,6 +1,6 @@
 -- Question 10 in exactly its own case, over the whole run.
 -- Relies on the operations' numbers: none is 10.
-use Prim.Native.Nat.{ℕ, suc, _≤_}
+use Prim.Native.Nat.{ℕ, suc}
 use mathlib.Core.Path.{_≡_, refl, ap}
 use mathlib.Core.Logic.{_≢_}
 use mathlib.Core.Bool.{Bool, true, false}

@@ -7,7 +7,6 @@ use lib.Dec.{eqb, leb}
 use lib.ListN.{length, replicate}
 use Rattle.words.specs.Choice.{pick}
 use Rattle.settings.specs.Sizes.{maxWorkers, nodeWords, levelWords, workerWords, levelCount, fresh}
-use Rattle.settings.specs.declared.Settings.{Settings}
 use Rattle.areas.specs.Memory.{Areas, areas}
 use Rattle.record.specs.declared.Answer.{Answer}
 use Rattle.record.specs.declared.Answer.the-variants as answer

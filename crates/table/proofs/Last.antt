@@ -19,7 +19,7 @@ use Rattle.record.specs.declared.Reply.{Reply}
 use Rattle.record.specs.Kinds.{kindNo, answerOf}
 use Rattle.record.specs.Layout.{load, headAt}
 use Rattle.record.specs.Fits.{fits}
-use Rattle.rules.specs.Asked.{question4, question6Record, question7}
+use Rattle.rules.specs.Asked.{question4, question6Record}
 use Rattle.rules.specs.Operations.{result, reply, unlessRefused, lastQuestions, lastOf, lastAnswer}
 use Rattle.table.specs.Cut.{firstFour}
 use Rattle.table.proofs.Questions.{after-four}

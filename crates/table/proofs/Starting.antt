@@ -1,30 +1,30 @@
 -- The ways through a start: its questions in their order, and the record that is written.
 -- Relies on Questions for the first four.
-use mathlib.Core.Path.{_≡_, sym, _∙_}
+use mathlib.Core.Path.{_≡_, sym, ap, _∙_}
 use mathlib.Core.Bool.{Bool, true, false}
 use mathlib.Core.List.{List, [], _∷_}
 use Prim.Native.Nat.{ℕ, _≤_}
 use lib.Dec.{eqb, leb}
 use lib.ListN.{length}
-use borrow.Author.Tests.{ne-eqb, leb-true}
+use borrow.Author.Tests.{eq-eqb, ne-eqb, leb-true}
 use Rattle.words.specs.Choice.{pick, both, asks, firstNo}
 use Rattle.words.specs.Digits.{maxSide, pixelNumber}
-use Rattle.words.proofs.Choice.{both-left, both-right}
+use Rattle.words.proofs.Choice.{pick-true, pick-false, both-left, both-right}
 use Rattle.settings.specs.declared.Settings.{Settings}
 use Rattle.settings.specs.Sizes.{question1, question2, question3, views}
 use Rattle.settings.specs.Cut.{firstThree}
 use Rattle.settings.proofs.Laws.{pick-zero}
-use Rattle.areas.specs.Memory.{areas}
+use Rattle.areas.specs.Memory.{Areas, areas}
 use Rattle.record.specs.declared.Answer.the-variants.{Nothing, Open}
 use Rattle.record.specs.declared.Head.{Head}
 use Rattle.record.specs.declared.Reply.{Reply}
 use Rattle.record.specs.Kinds.{kindNo}
 use Rattle.record.specs.Layout.{load, headAt, store, storeHead, storeMoves}
-use Rattle.record.specs.Fits.{fits}
+use Rattle.record.specs.Fits.{answerFits, fitsBy, fits}
 use Rattle.rules.specs.Heads.{started}
 use Rattle.rules.specs.Asked.{question4, question5, question6Record, question7, question17}
-use Rattle.rules.specs.Operations.{result, reply, unlessRefused, startQuestions, startedAreas, start}
-use Rattle.table.specs.Cut.{firstFour, afterFive, begun}
+use Rattle.rules.specs.Operations.{Result, result, reply, unlessRefused, startQuestions, startedAreas, start}
+use Rattle.table.specs.Cut.{firstFour, afterFive, begun, startReply}
 use Rattle.table.proofs.Questions.{both-zero, after-four}
 
 -- whether a head is idle
@@ -59,13 +59,22 @@ module _ (s : Settings) (i : ℕ) {looks v : Bool} where
   unfolding question17 pick
   right-places a t e = simp (e, sym a ∙ t)
 
+-- the record fits, of an idle worker and of another
+module _ (w : ℕ) (s : Settings) (k : List ℕ) (i : ℕ) {v x : Bool} where
+  pub idle-record : {y : Bool} {a : ℕ} → x ≡ answerFits v a → a ≡ headAt k i .answer → v ≡ views s i → y ≡ eqb (kindNo (headAt k i .kind)) 0 → y ≡ true → x ≡ fits w (views s i) s (load k i)
+  unfolding fits fitsBy load pick
+  idle-record a b e y t = simp (a, b, e, sym y ∙ t)
+
+  pub busy-record : x ≡ fits w v s (load k i) → v ≡ views s i → x ≡ fits w (views s i) s (load k i)
+  busy-record a e = simp (a, e)
+
 -- questions 17, 6 and 7
 pub record-way :
-    (w : ℕ) (s : Settings) (looks : Bool) (k : List ℕ) (i : ℕ) {q : ℕ} {v x y z : Bool} {h : Head}
-    → q ≡ pick z (pick x (pick y 0 7) 6) 17 → z ≡ question17 s looks i → y ≡ eqb (kindNo (h .kind)) 0 → x ≡ fits w v s (load k i) → v ≡ views s i → h ≡ headAt k i
+    (w : ℕ) (s : Settings) (looks : Bool) (k : List ℕ) (i : ℕ) {q : ℕ} {x y z : Bool}
+    → q ≡ pick z (pick x (pick y 0 7) 6) 17 → z ≡ question17 s looks i → y ≡ eqb (kindNo (headAt k i .kind)) 0 → x ≡ fits w (views s i) s (load k i)
     → q ≡ afterFive w s looks i (load k i)
 unfolding afterFive question7 load
-record-way w s looks k i a z b c v d = simp (a, z, b, c, v, d)
+record-way w s looks k i a z b c = simp (a, z, b, c)
 
 -- the record that a start writes
 pub begin-way :
@@ -133,3 +142,11 @@ module _ (w : ℕ) (s : Settings) (looks : Bool) (i row column : ℕ) (n g k : L
       → result r (areas n g k) ≡ start w s looks i row column (areas n g k)
   unfolding start unlessRefused pick
   start-refused a c e = simp (← c, ne-eqb _ _ e, a)
+
+-- a start by its number: its reply
+module _ (s : Settings) {r : Reply} {q : ℕ} {x : Areas} {y : Result} where
+  pub reply-open : r ≡ reply 0 Open 0 s → result (startReply q s) x ≡ y → q ≡ 0 → result r x ≡ y
+  reply-open a e z = ap (λ (o : Reply). result o x) (a ∙ sym (pick-true _ _ _ (eq-eqb _ _ z))) ∙ e
+
+  pub reply-refused : r ≡ reply q Nothing 0 s → result (startReply q s) x ≡ y → (q ≡ 0 → ⊥) → result r x ≡ y
+  reply-refused a e z = ap (λ (o : Reply). result o x) (a ∙ sym (pick-false _ _ _ (ne-eqb _ _ z))) ∙ e

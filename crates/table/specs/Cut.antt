@@ -9,14 +9,13 @@ use Rattle.words.specs.Choice.{pick}
 use Rattle.words.specs.Digits.{pixelNumber}
 use Rattle.settings.specs.Cut.{firstThree}
 use Rattle.settings.specs.declared.Settings.{Settings}
-use Rattle.record.specs.declared.Answer.{Answer}
-use Rattle.record.specs.declared.Answer.the-variants.{Open}
-use Rattle.record.specs.declared.Head.{Head}
-use Rattle.record.specs.Kinds.{kindNo, answerOf}
+use Rattle.record.specs.declared.Answer.the-variants.{Nothing, Open}
+use Rattle.record.specs.declared.Reply.{Reply}
 use Rattle.record.specs.Layout.{Record, headAt, storeHead}
 use Rattle.record.specs.Fits.{fits}
 use Rattle.rules.specs.Heads.{started}
 use Rattle.rules.specs.Asked.{question4, question17, question7}
+use Rattle.rules.specs.Operations.{reply}
 
 -- questions 1 to 4 of worker i
 unfoldable pub firstFour : ℕ → Settings → ℕ → ℕ → ℕ → ℕ → ℕ
@@ -29,3 +28,7 @@ afterFive w s looks i r = pick (question17 s looks i) (pick (fits w (views s i) 
 -- the workers' words with the record of a call that starts
 unfoldable pub begun : ℕ → ℕ → ℕ → List ℕ → List ℕ
 begun i row column k = storeHead (started (pixelNumber row column) (headAt k i)) 0 i k
+
+-- the reply of a start with this number
+abbrev pub startReply : ℕ → Settings → Reply
+startReply q s = pick (eqb q 0) (reply 0 Open 0 s) (reply q Nothing 0 s)

@@ -6,21 +6,25 @@ ghost use lib.Dec.{eqb};
 ghost use lib.ListN.{length};
 ghost use Rattle.words.specs.Choice.{pick, firstNo};
 ghost use Rattle.words.specs.Digits.{DigitWidth, pixelNumber};
-ghost use Rattle.settings.specs.Sizes.{maxLimit, workerWords};
+ghost use Rattle.settings.specs.Sizes.{maxLimit, workerWords, views};
 ghost use Rattle.areas.specs.Memory.{areas};
 ghost use Rattle.record.specs.Kinds.{kindNo};
 ghost use Rattle.record.specs.Layout.{load};
+ghost use Rattle.record.specs.Fits.{fits};
 ghost use Rattle.rules.specs.Heads.{started};
 ghost use Rattle.rules.specs.Asked.{question5, question17};
 ghost use Rattle.rules.specs.Operations.{result, reply, opening, startQuestions, start, lastQuestions, lastAnswer, lastOf};
-ghost use Rattle.table.specs.Cut.{firstFour, afterFive, begun};
+ghost use Rattle.table.specs.Cut.{firstFour, afterFive, begun, startReply};
 use areas::fill_level;
 use record::Answer;
 use record::Head;
 use record::Kind;
 use record::Reply;
+use record::answer_at;
 use record::answer_of;
 use record::fits;
+use record::idle_at;
+use record::idle_fits;
 use record::kind_no;
 use settings::Settings;
 use words::and;
@@ -121,7 +125,7 @@ pub fn refused_worker(s: Settings, i: u32, nodes: &[u32], levels: &[u32], worker
 }
 
 // Question 17: a looking call is a viewer's, a placing call another worker's.
-fn right_call(s: Settings, looks: bool, i: u32) -> bool
+fn sort_fits(s: Settings, looks: bool, i: u32) -> bool
     ensures { λ r. ⌜ r ≡ question17 s looks i ⌝ }
 {
     let v = s.views(i);
@@ -143,17 +147,31 @@ fn after_five(right: bool, fit: bool, idle: bool) -> u32
     }
 }
 
+// The record of worker i fits its layout. Of an idle worker, as most that start are, two words tell. A last answer asks `fits` itself: with that function called from
+// one place alone, the compiler would call this one for every start.
+fn record_fits(s: Settings, i: u32, workers: &[u32]) -> bool
+    requires { ⌜ DigitWidth (s .width) ⌝ }
+    requires { ⌜ s .limit ≤ maxLimit ⌝ }
+    ensures { λ r. ⌜ r ≡ fits (s .width) (views s i) s (load (now (workers .entry)) i) ⌝ }
+{
+    let v = s.views(i);
+    if idle_at(workers, i) {
+        idle_fits(v, answer_at(workers, i))
+    } else {
+        fits(v, s, Head::load(workers, i), workers, i)
+    }
+}
+
 // Questions 17, 6 and 7, which a start asks of worker i and its record.
 fn refused_record(s: Settings, looks: bool, i: u32, workers: &[u32]) -> u32
     requires { ⌜ DigitWidth (s .width) ⌝ }
     requires { ⌜ s .limit ≤ maxLimit ⌝ }
     ensures { λ r. ⌜ r ≡ afterFive (s .width) s looks i (load (now (workers .entry)) i) ⌝ }
 {
-    let h = Head::load(workers, i);
     after_five(
-        right_call(s, looks, i),
-        fits(s.views(i), s, h, workers, i),
-        is_idle(h),
+        sort_fits(s, looks, i),
+        record_fits(s, i, workers),
+        idle_at(workers, i),
     )
 }
 
@@ -193,6 +211,28 @@ fn begin_call(i: u32, row: u32, column: u32, workers: &mut [u32])
     started(pixel_number(row, column), h).store(0, workers, i);
 }
 
+// A start, told by its number alone.
+pub fn begin(
+    s: Settings,
+    looks: bool,
+    i: u32,
+    row: u32,
+    column: u32,
+    nodes: &[u32],
+    levels: &[u32],
+    workers: &mut [u32],
+) -> u32
+    ensures { λ q. ⌜ result (startReply q s) (areas (now (nodes .entry)) (now (levels .entry)) (now (workers .exit))) ≡ start (s .width) s looks i row column (areas (now (nodes .entry)) (now (levels .entry)) (now (workers .entry))) ⌝ }
+{
+    let q = refused_start(s, looks, i, row, column, nodes, levels, workers);
+    if q == 0 {
+        begin_call(i, row, column, workers);
+        0
+    } else {
+        q
+    }
+}
+
 // Start of a call of worker i for the pixel at row and column: it places the pixel, or looks for it.
 pub fn start(
     s: Settings,
@@ -206,9 +246,8 @@ pub fn start(
 ) -> Reply
     ensures { λ r. ⌜ result r (areas (now (nodes .entry)) (now (levels .entry)) (now (workers .exit))) ≡ start (s .width) s looks i row column (areas (now (nodes .entry)) (now (levels .entry)) (now (workers .entry))) ⌝ }
 {
-    let q = refused_start(s, looks, i, row, column, nodes, levels, workers);
+    let q = begin(s, looks, i, row, column, nodes, levels, workers);
     if q == 0 {
-        begin_call(i, row, column, workers);
         replied(0, Answer::Open, s)
     } else {
         refusal(q, s)

@@ -61,9 +61,6 @@ didOf e x = did (turnDone (x .reply .number) (x .reply .settings) (pick (eqb (x 
 abbrev pub didAs : ℕ → Bool → Settings → ℕ → Areas → Did
 didAs w v s i a = didOf (exchangeOf w (recordOf a i) (memoryOf a)) (turnAs w v s i a)
 
-abbrev pub didHere : ℕ → Settings → ℕ → Areas → Did
-didHere w s i a = didAs w (views s i) s i a
-
 -- what an exchange came to, as the code tells it: what was put into the cell is no longer in hand, or no longer remembered
 unfoldable pub byHeld : ℕ → Exchange
 byHeld held = pick (eqb held 0) Done Failed

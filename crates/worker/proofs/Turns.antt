@@ -20,7 +20,7 @@ use Rattle.rules.specs.Acts.{actBy}
 use Rattle.rules.specs.Asked.{readsBy, question9}
 use Rattle.rules.specs.Heads.{ended}
 use Rattle.rules.specs.Steps.{Step, step, going}
-use Rattle.rules.specs.Searching.{takesNode, wants, viewed}
+use Rattle.rules.specs.Searching.{takesNode, takesNext, viewed}
 use Rattle.worker.specs.declared.Turned.{Turned}
 use Rattle.steps.specs.Cut.{begun}
 use Rattle.steps.specs.Tried.{Tried, tried, unlessSix, unlessNine}
@@ -48,34 +48,34 @@ module _ (q : Bool) (s : Settings) (h : Head) (m : Memory) (u : Step) where
   unfolding unlessNine pick
   nine-yes a e = simp (e, a)
 
--- the ways through wants: Take, TakeTail and Level by number
+-- the ways through takesNext: Take, TakeTail and Level by number
 module _ (k : Kind) {n : ℕ} where
-  pub wants-two : n ≡ kindNo k → n ≡ 2 → true ≡ wants k
-  unfolding wants takesNode pick
-  wants-two e q = simp (← e, q)
+  pub takes-next-two : n ≡ kindNo k → n ≡ 2 → true ≡ takesNext k
+  unfolding takesNext takesNode pick
+  takes-next-two e q = simp (← e, q)
 
-  pub wants-six : n ≡ kindNo k → n ≡ 6 → true ≡ wants k
-  unfolding wants takesNode pick
-  wants-six e q = simp (← e, q)
+  pub takes-next-six : n ≡ kindNo k → n ≡ 6 → true ≡ takesNext k
+  unfolding takesNext takesNode pick
+  takes-next-six e q = simp (← e, q)
 
-  pub wants-eight : {b : Bool} → b ≡ eqb n 8 → n ≡ kindNo k → (n ≡ 2 → ⊥) → (n ≡ 6 → ⊥) → b ≡ wants k
-  unfolding wants takesNode pick
-  wants-eight a e p q = simp (a, ← e, ne-eqb n 2 p, ne-eqb n 6 q)
+  pub takes-next-eight : {b : Bool} → b ≡ eqb n 8 → n ≡ kindNo k → (n ≡ 2 → ⊥) → (n ≡ 6 → ⊥) → b ≡ takesNext k
+  unfolding takesNext takesNode pick
+  takes-next-eight a e p q = simp (a, ← e, ne-eqb n 2 p, ne-eqb n 6 q)
 
 -- the ways through viewed
 module _ (s : Settings) (h : Head) {t : Turned} {b : Bool} where
-  pub viewed-ends : {x : Head} → t ≡ turnedOf 0 Absent s x 0 → x ≡ ended 5 0 (h .«held_node») h → b ≡ wants (h .kind) → b ≡ true → t ≡ viewedOf s h
+  pub viewed-ends : {x : Head} → t ≡ turnedOf 0 Absent s x 0 → x ≡ ended 5 0 (h .«held_node») h → b ≡ takesNext (h .kind) → b ≡ true → t ≡ viewedOf s h
   unfolding viewedOf pick
   viewed-ends a x b e = simp (a, x, sym b ∙ e)
 
-  pub viewed-goes : t ≡ turnedOf 0 Open s h 0 → b ≡ wants (h .kind) → b ≡ false → t ≡ viewedOf s h
+  pub viewed-goes : t ≡ turnedOf 0 Open s h 0 → b ≡ takesNext (h .kind) → b ≡ false → t ≡ viewedOf s h
   unfolding viewedOf pick
   viewed-goes a b e = simp (a, sym b ∙ e)
 
 -- what it gives is the definition's
 pub viewed-tried : (s : Settings) (h : Head) (m : Memory) → turned (viewedOf s h) m ≡ tried 0 (viewed true s h m)
 unfolding viewedOf viewed begun both pick
-viewed-tried s h m = by (wants (h .kind))
+viewed-tried s h m = by (takesNext (h .kind))
   where
     by : (b : Bool) → turned (pick b (turnedOf 0 Absent s (ended 5 0 (h .«held_node») h) 0) (turnedOf 0 Open s h 0)) m ≡ tried 0 (pick b (step Absent s (ended 5 0 (h .«held_node») h) [] m) (going s h [] m))
     by true = refl

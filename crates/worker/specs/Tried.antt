@@ -10,7 +10,7 @@ use Rattle.record.specs.declared.Answer.the-variants.{Open, Absent}
 use Rattle.record.specs.declared.Head.{Head}
 use Rattle.rules.specs.Heads.{ended}
 use Rattle.rules.specs.Steps.{step}
-use Rattle.rules.specs.Searching.{wants}
+use Rattle.rules.specs.Searching.{takesNext}
 use Rattle.steps.specs.Cut.{begun}
 use Rattle.steps.specs.Tried.{Tried, tried}
 use Rattle.worker.specs.declared.Turned.{Turned}
@@ -24,4 +24,4 @@ turnedOf n a s h c = record { number = n; answer = a; settings = s; worker = rec
 
 -- a viewer's Look and Tail with the head that would go on
 unfoldable pub viewedOf : Settings → Head → Turned
-viewedOf s h = pick (wants (h .kind)) (turnedOf 0 Absent s (ended 5 0 (h .«held_node») h) 0) (turnedOf 0 Open s h 0)
+viewedOf s h = pick (takesNext (h .kind)) (turnedOf 0 Absent s (ended 5 0 (h .«held_node») h) 0) (turnedOf 0 Open s h 0)

@@ -11,7 +11,7 @@ ghost use Rattle.settings.specs.Sizes.{maxLimit, maxNodes, mostDepth, mostLevel
 ghost use Rattle.settings.specs.Cut.{Sized};
 ghost use Rattle.areas.specs.Memory.{memory, depthAt, refTaken};
 ghost use Rattle.rules.specs.Steps.{peeked, withNode, takeNode, takeLevel, beginsMove};
-ghost use Rattle.rules.specs.Searching.{entryOf, endsNew, metNode, met, readWord, followWord, look, take, put, read, tail, takeTail, append, level, close, follow, wants};
+ghost use Rattle.rules.specs.Searching.{entryOf, endsNew, metNode, met, readWord, followWord, look, take, put, read, tail, takeTail, append, level, close, follow, takesNext};
 ghost use Rattle.rules.specs.Asked.{comparesRef, followsRef, nodeLeft, takes, tails, takesLevel, looks, picksWith, puts, reads, appends, closes, follows};
 ghost use Rattle.steps.specs.Tried.{tried, unlessSix, unlessNine, exchangeTried};
 ghost use Rattle.worker.specs.Tried.{turned, turnedOf, viewedOf};
@@ -93,8 +93,8 @@ fn going(s: Settings, h: Head) -> Turned
 }
 
 // Take, TakeTail or Level comes next.
-fn wants(k: Kind) -> bool
-    ensures { λ r. ⌜ r ≡ wants k ⌝ }
+fn takes_next(k: Kind) -> bool
+    ensures { λ r. ⌜ r ≡ takesNext k ⌝ }
 {
     let n = kind_no(k);
     if n == 2 {
@@ -109,7 +109,7 @@ fn viewed(s: Settings, h: Head) -> Turned
     ensures { λ r. ⌜ r ≡ viewedOf s h ⌝ }
 {
     let k = h.kind;
-    if wants(k) {
+    if takes_next(k) {
         answered(0, Answer::Absent, s, ended(5, 0, h.held_node, h), 0)
     } else {
         going(s, h)
@@ -475,14 +475,14 @@ impl Worker {
 
     // A viewer's Look, or else its Read: K's entry is read. The compiler has the turns of the other workers inside the loop of a list; a viewer's are apart, so that
     // tables without viewers do not pay for them.
-    fn view_entry(self, looks: bool, s: Settings, nodes: &[u32], levels: &[u32]) -> Turned
+    fn view_entry(self, peeks: bool, s: Settings, nodes: &[u32], levels: &[u32]) -> Turned
         requires { ⌜ DigitWidth (s .width) ⌝ }
-        ensures { λ r. ⌜ turned r (memory (now (nodes .entry)) (now (levels .entry))) ≡ viewEntry (s .width) looks s (self .head) (memory (now (nodes .entry)) (now (levels .entry))) ⌝ }
+        ensures { λ r. ⌜ turned r (memory (now (nodes .entry)) (now (levels .entry))) ≡ viewEntry (s .width) peeks s (self .head) (memory (now (nodes .entry)) (now (levels .entry))) ⌝ }
     {
         let h = self.head;
         let word = cell_at(s.width, entry_of(s.width, h, levels), nodes, levels);
         let before = picks_in(s, h.level, levels);
-        if looks {
+        if peeks {
             view_met(before, s, h, word, Kind::Take, Kind::Read)
         } else {
             read_met(before, s, h, word, nodes, levels)
@@ -490,14 +490,14 @@ impl Worker {
     }
 
     // A viewer's Tail, or else its Follow: R's next is read.
-    fn view_next(self, looks: bool, s: Settings, nodes: &[u32], levels: &[u32]) -> Turned
+    fn view_next(self, peeks: bool, s: Settings, nodes: &[u32], levels: &[u32]) -> Turned
         requires { ⌜ DigitWidth (s .width) ⌝ }
         requires { ⌜ s .limit ≤ maxLimit ⌝ }
-        ensures { λ r. ⌜ turned r (memory (now (nodes .entry)) (now (levels .entry))) ≡ viewNext (s .width) looks s (self .head) (memory (now (nodes .entry)) (now (levels .entry))) ⌝ }
+        ensures { λ r. ⌜ turned r (memory (now (nodes .entry)) (now (levels .entry))) ≡ viewNext (s .width) peeks s (self .head) (memory (now (nodes .entry)) (now (levels .entry))) ⌝ }
     {
         let h = self.head;
         let word = next_at(nodes, h.node);
-        if looks {
+        if peeks {
             let k = by_count(s, h.count, Kind::TakeTail, Kind::Level, Kind::Follow);
             view_met(stands_at(s, h), s, h, word, k, Kind::Follow)
         } else {

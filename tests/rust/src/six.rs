@@ -394,6 +394,12 @@ fn clauses() -> Vec<Clause> {
         clause("free: the level's depth", &[Take, TakeTail, Tail, Append, Close, Follow, SetNext, SetTail, SetAppend, SetClose, SetFollow], |v| {
             free(v.depth_of(v.level()), &[v.last_depth() + 1, MAX])
         }),
+        // where a placing worker goes on to Level, which asks it then, and a viewer ends "absent"
+        clause("free: the level's depth at the chain's end and the limit", &[Tail], |v| {
+            let mut x = free(v.depth_of(v.level()), &[v.last_depth(), v.last_depth() + 1, MAX])?;
+            x.first = vec![(v.at(COUNT), v.limit()), (v.cell(), 2 * v.level())];
+            Some(x)
+        }),
         clause("free: the level's previous", &but(open, &[Follow, SetFollow]), |v| free(v.previous_of(v.level()), &[NONE, MAX - 1])),
         clause("free: R's pixel", &at_r, |v| free(v.pixel_of(v.word(NODE)), &[MAX])),
         clause("free: N's pixel", &[ChainNext, SetNext, SetTail, SetAppend, SetLevel, SetClose, SetFollow], |v| free(v.pixel_of(v.n()), &[MAX])),

@@ -2,9 +2,8 @@
 -- Relies on lists for each way in which a turn ends.
 use mathlib.Core.Path.{refl}
 use Rattle.words.proofs.Choice.{via}
-use Rattle.settings.specs.Cut.{counted}
 use Rattle.lists.proofs.Ways.{turn-refused}
-use Rattle.lists.proofs.One.{one-three, one-below, one-sized, alone-open, view-six, view-told, one-six, one-told, one-open, same-counted}
+use Rattle.lists.proofs.One.{one-three, one-below, one-sized, alone-open, view-six, view-told, one-six, one-told, one-open}
 use Rattle.export.proofs.Exported.{export-steps}
 use borrow.Author.Needs.{needs}
 use Rattle.export.proofs.leafdrum_turn.Statement.{statement}
@@ -104,8 +103,8 @@ returns-4 c = let r = c .before .before .before .before .before .before .before 
     let o = via (b .before .refused-turn .ensures) (b .if1 .taken) in
     export-steps (c .ended-refused3 .ensures) (one-six _ _ _ _ _ o _ (r .run-list .ensures) refl refl (c .before .if4 .taken))
 
-same-counts-requires : tie.Need-same-counts-requires
-same-counts-requires c κs = search needs
+with-counts-requires : tie.Need-with-counts-requires
+with-counts-requires c κs = search needs
 
 idle-at-requires : tie.Need-idle-at-requires
 idle-at-requires c κs = search needs
@@ -123,11 +122,11 @@ same-length-15 : tie.Need-same-length-15
 same-length-15 c = search needs
 
 returns-5 : tie.Need-returns-5
-returns-5 c = let r = c .before .before .before .before .before .before .before .before .before .before .before .before .before .before .before in
+returns-5 c = let n = c .before .before .before .before .before in
+    let r = n .before .before .before .before .before .before .before .before .before in
     let b = r .before .before .before .before .before .before .before in
     let o = via (b .before .refused-turn .ensures) (b .if1 .taken) in
-    let e = c .before .before .before .before .before in
-    export-steps (c .ended-told2 .ensures) (one-told _ _ _ _ _ o _ (r .run-list .ensures) refl refl refl (same-counted _ (r .run-list .result) (e .before .same-counts .ensures) (e .if5 .taken)) (e .before .before .if4 .left))
+    export-steps (c .ended-told2 .ensures) (one-told _ _ _ _ _ o _ (r .run-list .ensures) refl refl refl (n .with-counts .ensures) (n .before .if4 .left))
 
 ended-open-requires : tie.Need-ended-open-requires
 ended-open-requires c κs = search needs
@@ -142,30 +141,11 @@ same-length-18 : tie.Need-same-length-18
 same-length-18 c = search needs
 
 returns-6 : tie.Need-returns-6
-returns-6 c = let r = c .before .before .before .before .before .before .before .before .before .before .before .before .before .before in
+returns-6 c = let n = c .before .before .before .before in
+    let r = n .before .before .before .before .before .before .before .before .before in
     let b = r .before .before .before .before .before .before .before in
     let o = via (b .before .refused-turn .ensures) (b .if1 .taken) in
-    let e = c .before .before .before .before in
-    export-steps (c .ended-open .ensures) (one-open _ _ _ _ _ o _ (r .run-list .ensures) refl refl (c .before .before .idle-at .ensures) (c .before .if6 .left) (same-counted _ (r .run-list .result) (e .before .same-counts .ensures) (e .if5 .taken)) (e .before .before .if4 .left))
-
-ended-told-requires-3 : tie.Need-ended-told-requires-3
-ended-told-requires-3 c κs = search needs
-
-same-length-19 : tie.Need-same-length-19
-same-length-19 c = search needs
-
-same-length-20 : tie.Need-same-length-20
-same-length-20 c = search needs
-
-same-length-21 : tie.Need-same-length-21
-same-length-21 c = search needs
-
-returns-7 : tie.Need-returns-7
-unfolding counted
-returns-7 c = let r = c .before .before .before .before .before .before .before .before .before .before .before .before in
-    let b = r .before .before .before .before .before .before .before in
-    let o = via (b .before .refused-turn .ensures) (b .if1 .taken) in
-    export-steps (c .ended-told3 .ensures) (one-told _ _ _ _ _ o _ (r .run-list .ensures) refl refl refl refl (c .before .before .before .before .if4 .left))
+    export-steps (c .ended-open .ensures) (one-open _ _ _ _ _ o _ (r .run-list .ensures) refl refl (c .before .before .idle-at .ensures) (c .before .if5 .left) (n .with-counts .ensures) (n .before .if4 .left))
 
 pub leafdrum-turn-spec : {M : Type 1} → statement M
 leafdrum-turn-spec =
@@ -197,7 +177,7 @@ leafdrum-turn-spec =
     same-length-11
     same-length-12
     returns-4
-    same-counts-requires
+    with-counts-requires
     idle-at-requires
     ended-told-requires-2
     same-length-13
@@ -208,9 +188,4 @@ leafdrum-turn-spec =
     same-length-16
     same-length-17
     same-length-18
-    returns-6
-    ended-told-requires-3
-    same-length-19
-    same-length-20
-    same-length-21
-    returns-7)
+    returns-6)

@@ -1,9 +1,6 @@
 -- `export::leafdrum_turns` meets its contract.
 -- Relies on lists for each way in which a list ends.
-use mathlib.Core.Path.{refl}
-use Rattle.settings.specs.Cut.{counted}
 use Rattle.lists.proofs.Ways.{asked-three, asked-below, list-refused}
-use Rattle.lists.proofs.One.{same-counted}
 use Rattle.export.proofs.Exported.{list-steps, apart-below, apart-done, none-done}
 use borrow.Author.Needs.{needs}
 use Rattle.export.proofs.leafdrum_turns.Statement.{statement}
@@ -64,8 +61,8 @@ run-list-requires c κs = let w = c .before .before .before .before in
     let f = b .before in
     (asked-three _ _ _ _ _ _ (f .before .refused-list .ensures) (f .if1 .taken), apart-below _ (w .wide .ensures) (b .if2 .left) _ (asked-below _ _ _ _ _ _ (f .before .refused-list .ensures) (f .if1 .taken)))
 
-same-counts-requires : tie.Need-same-counts-requires
-same-counts-requires c κs = search needs
+with-counts-requires : tie.Need-with-counts-requires
+with-counts-requires c κs = search needs
 
 ended-list-requires : tie.Need-ended-list-requires
 ended-list-requires c κs = search needs
@@ -80,31 +77,11 @@ same-length-9 : tie.Need-same-length-9
 same-length-9 c = search needs
 
 returns-3 : tie.Need-returns-3
-returns-3 c = let r = c .before .before .before .before .before .before .before .before .before in
+returns-3 c = let r = c .before .before .before .before .before .before .before .before in
     let w = r .before .before .before .before .before in
     let b = w .before .before in
     let f = b .before in
-    list-steps (c .ended-list .ensures) (apart-done _ (w .wide .ensures) (b .if2 .left) _ _ _ _ _ (r .run-list .result) (f .before .refused-list .ensures) (f .if1 .taken) (r .run-list .ensures) (same-counted _ (r .run-list .result) (c .before .before .same-counts .ensures) (c .before .if3 .taken)))
-
-ended-list-requires-2 : tie.Need-ended-list-requires-2
-ended-list-requires-2 c κs = search needs
-
-same-length-10 : tie.Need-same-length-10
-same-length-10 c = search needs
-
-same-length-11 : tie.Need-same-length-11
-same-length-11 c = search needs
-
-same-length-12 : tie.Need-same-length-12
-same-length-12 c = search needs
-
-returns-4 : tie.Need-returns-4
-unfolding counted
-returns-4 c = let r = c .before .before .before .before .before .before .before .before .before in
-    let w = r .before .before .before .before .before in
-    let b = w .before .before in
-    let f = b .before in
-    list-steps (c .ended-list2 .ensures) (apart-done _ (w .wide .ensures) (b .if2 .left) _ _ _ _ _ (r .run-list .result) (f .before .refused-list .ensures) (f .if1 .taken) (r .run-list .ensures) refl)
+    list-steps (c .ended-list .ensures) (apart-done _ (w .wide .ensures) (b .if2 .left) _ _ _ _ _ (r .run-list .result) (f .before .refused-list .ensures) (f .if1 .taken) (r .run-list .ensures) (c .before .with-counts .ensures))
 
 pub leafdrum-turns-spec : {M : Type 1} → statement M
 leafdrum-turns-spec =
@@ -127,14 +104,9 @@ leafdrum-turns-spec =
     part-run-list-start
     part-run-list-end
     run-list-requires
-    same-counts-requires
+    with-counts-requires
     ended-list-requires
     same-length-7
     same-length-8
     same-length-9
-    returns-3
-    ended-list-requires-2
-    same-length-10
-    same-length-11
-    same-length-12
-    returns-4)
+    returns-3)

@@ -11,7 +11,7 @@ idle-at-requires : tie.Need-idle-at-requires
 idle-at-requires c κs = search needs
 
 views-of-requires : tie.Need-views-of-requires
-views-of-requires c κs = (search needs, search (needs, entry-viewers))
+views-of-requires c κs = search (needs, entry-viewers)
 
 answer-at-requires : tie.Need-answer-at-requires
 answer-at-requires c κs = search needs
@@ -20,7 +20,7 @@ idle-entry-requires : tie.Need-idle-entry-requires
 idle-entry-requires c κs = search needs
 
 views-of-requires-2 : tie.Need-views-of-requires-2
-views-of-requires-2 c κs = (search needs, search (needs, entry-viewers))
+views-of-requires-2 c κs = search (needs, entry-viewers)
 
 with-counts-requires : tie.Need-with-counts-requires
 with-counts-requires c κs = search needs

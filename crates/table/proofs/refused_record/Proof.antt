@@ -5,20 +5,14 @@ use borrow.Author.Needs.{needs}
 use Rattle.table.proofs.refused_record.Statement.{statement}
 use Rattle.table.proofs.refused_record.Tie as tie
 
-load-requires : tie.Need-load-requires
-load-requires c κs = search needs
+sort-fits-requires : tie.Need-sort-fits-requires
+sort-fits-requires c κs = search needs
 
-right-call-requires : tie.Need-right-call-requires
-right-call-requires c κs = search needs
+record-fits-requires : tie.Need-record-fits-requires
+record-fits-requires c κs = search needs
 
-views-requires : tie.Need-views-requires
-views-requires c κs = search needs
-
-fits-requires : tie.Need-fits-requires
-fits-requires c κs = search needs
-
-is-idle-requires : tie.Need-is-idle-requires
-is-idle-requires c κs = search needs
+idle-at-requires : tie.Need-idle-at-requires
+idle-at-requires c κs = search needs
 
 after-five-requires : tie.Need-after-five-requires
 after-five-requires c κs = search needs
@@ -27,4 +21,4 @@ returns : tie.Need-returns
 returns c = search (needs, record-way)
 
 pub refused-record-spec : {M : Type 1} → statement M
-refused-record-spec = tie.close (tie.spec load-requires right-call-requires views-requires fits-requires is-idle-requires after-five-requires returns)
+refused-record-spec = tie.close (tie.spec sort-fits-requires record-fits-requires idle-at-requires after-five-requires returns)

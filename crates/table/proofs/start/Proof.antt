@@ -1,16 +1,12 @@
 -- `table::start` meets its contract.
 -- Relies on Starting.
-use Rattle.table.proofs.Starting.{start-row, start-column, start-done, start-refused}
-use Rattle.words.proofs.Auto.{tests}
+use Rattle.table.proofs.Starting.{reply-open, reply-refused}
 use borrow.Author.Needs.{needs}
 use Rattle.table.proofs.start.Statement.{statement}
 use Rattle.table.proofs.start.Tie as tie
 
-refused-start-requires : tie.Need-refused-start-requires
-refused-start-requires c κs = search needs
-
-begin-call-requires : tie.Need-begin-call-requires
-begin-call-requires c κs = search (tests, start-row, start-column)
+begin-requires : tie.Need-begin-requires
+begin-requires c κs = search needs
 
 replied-requires : tie.Need-replied-requires
 replied-requires c κs = search needs
@@ -22,23 +18,13 @@ same-length : tie.Need-same-length
 same-length c = search needs
 
 returns : tie.Need-returns
-returns c = search (tests, start-done)
+returns c = search (needs, reply-open)
 
 same-length-2 : tie.Need-same-length-2
 same-length-2 c = search needs
 
 returns-2 : tie.Need-returns-2
-returns-2 c = search (tests, start-refused)
+returns-2 c = search (needs, reply-refused)
 
 pub start-spec : {M : Type 1} → statement M
-start-spec =
-    tie.close
-    (tie.spec
-    refused-start-requires
-    begin-call-requires
-    replied-requires
-    refusal-requires
-    same-length
-    returns
-    same-length-2
-    returns-2)
+start-spec = tie.close (tie.spec begin-requires replied-requires refusal-requires same-length returns same-length-2 returns-2)

@@ -6,8 +6,8 @@ use borrow.Author.Needs.{needs}
 use Rattle.worker.proofs.viewed.Statement.{statement}
 use Rattle.worker.proofs.viewed.Tie as tie
 
-wants-requires : tie.Need-wants-requires
-wants-requires c κs = search needs
+takes-next-requires : tie.Need-takes-next-requires
+takes-next-requires c κs = search needs
 
 ended-requires : tie.Need-ended-requires
 ended-requires c κs = search needs
@@ -25,4 +25,4 @@ returns-2 : tie.Need-returns-2
 returns-2 c = search (needs, via, viewed-goes)
 
 pub viewed-spec : {M : Type 1} → statement M
-viewed-spec = tie.close (tie.spec wants-requires ended-requires answered-requires going-requires returns returns-2)
+viewed-spec = tie.close (tie.spec takes-next-requires ended-requires answered-requires going-requires returns returns-2)

@@ -1,10 +1,10 @@
--- `table::right_call` meets its contract.
+-- `table::sort_fits` meets its contract.
 -- Relies on Starting.
 use Rattle.table.proofs.Starting.{right-looks, right-viewer, right-places}
 use Rattle.words.proofs.Auto.{tests}
 use borrow.Author.Needs.{needs}
-use Rattle.table.proofs.right_call.Statement.{statement}
-use Rattle.table.proofs.right_call.Tie as tie
+use Rattle.table.proofs.sort_fits.Statement.{statement}
+use Rattle.table.proofs.sort_fits.Tie as tie
 
 views-requires : tie.Need-views-requires
 views-requires c κs = search needs
@@ -18,5 +18,5 @@ returns-2 c = search (tests, right-viewer)
 returns-3 : tie.Need-returns-3
 returns-3 c = search (tests, right-places)
 
-pub right-call-spec : {M : Type 1} → statement M
-right-call-spec = tie.close (tie.spec views-requires returns returns-2 returns-3)
+pub sort-fits-spec : {M : Type 1} → statement M
+sort-fits-spec = tie.close (tie.spec views-requires returns returns-2 returns-3)
