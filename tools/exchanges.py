@@ -128,7 +128,7 @@ DOCUMENT = """# How often exchanges fail
 Written by `python3 tools/exchanges.py text` from what the library's lists of turns report; the tests compare it with a new run.
 
 An exchange is the one access by which a turn puts a node or a level where others look for it: Put, Append and Close, and the same inside a Move. It fails if another worker was there first;
-the turn then acts on the word that it met. In every sequence from an opening, failed exchanges are at most (placing workers − 1) × those done; with one none fails, and viewers make none.
+the turn then acts on the word that it met. In every sequence from an opening, failed exchanges are at most (placing workers − 1) × those done; with one placing worker none fails, and viewers make none.
 The bound is reached: where {crew} workers race for one pixel, one exchange is done and {others} fail.
 
 ![exchanges failed against exchanges done, and the bound](pictures/exchanges.svg)
