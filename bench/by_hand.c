@@ -383,3 +383,36 @@ R HAND(turns)(S s, const uint8_t *list, size_t count, uint32_t limit, LEAFDRUM_A
     r.turns = done, r.exchanges_done = exchanges - failures, r.exchanges_failed = failures;
     return r;
 }
+
+/* A "next": the same search from the root on, breadth first, then the least pixel that the place leaves. */
+leafdrum_given HAND(next)(S s, leafdrum_listing *listing, const uint32_t *nodes, size_t node_words, const uint32_t *levels, size_t level_words) {
+    D d;
+    uint32_t q = counts(&s, &d, node_words, level_words, RECORD * (size_t)s.workers);
+    if (q == 0 && listing->place > LEAFDRUM_LISTING_END) q = 11;
+    if (q) return (leafdrum_given){q, LEAFDRUM_GIVEN_REFUSED, 0};
+    enum { NODES = 4096, LEVELS = 45073 };
+    uint8_t seen[NODES + LEVELS];
+    uint16_t queue[NODES + LEVELS];
+    memset(seen, 0, NODES + s.levels_taken);
+    uint32_t tail = 0, best = MAXPIX + 1;
+    seen[NODES] = 1, queue[tail++] = NODES;
+    for (uint32_t k = 0; k < tail; k++) {
+        uint32_t t = queue[k], n = t < NODES ? 1 : d.words - 2;
+        const uint32_t *w = t < NODES ? nodes + 2 * t + 1 : levels + (size_t)d.words * (t - NODES) + 2;
+        for (uint32_t e = 0; e < n; e++) {
+            uint32_t i = w[e] >> 1;
+            if (i >= (w[e] & 1 ? s.nodes_taken : s.levels_taken)) return (leafdrum_given){6, LEAFDRUM_GIVEN_REFUSED, 0};
+            if (!(w[e] & 1)) i += NODES;
+            if (!seen[i]) seen[i] = 1, queue[tail++] = i;
+        }
+        if (t < NODES || w[-2] == 4294967295u) continue;
+        if (w[-2] >= s.levels_taken) return (leafdrum_given){6, LEAFDRUM_GIVEN_REFUSED, 0};
+        uint32_t i = NODES + w[-2];
+        if (!seen[i]) seen[i] = 1, queue[tail++] = i;
+    }
+    for (uint32_t i = 0; i < s.nodes_taken; i++)
+        if (seen[i] && nodes[2 * i] >= listing->place && nodes[2 * i] < best) best = nodes[2 * i];
+    listing->place = best + 1;
+    if (best > MAXPIX) return (leafdrum_given){0, LEAFDRUM_GIVEN_END, 0};
+    return (leafdrum_given){0, LEAFDRUM_GIVEN_PIXEL, best};
+}

@@ -3,6 +3,7 @@
 set -eu
 cd "$(dirname "$0")/.."
 sh tools/build.sh
-out=target/bench
-gcc -O3 -Wall -Wextra bench/bench.c bench/by_hand.c target/staticlib/libexport.a -o "$out"
-exec "$out"
+for name in bench next; do
+    gcc -O3 -Wall -Wextra "bench/$name.c" bench/by_hand.c target/staticlib/libexport.a -o "target/$name"
+    "target/$name"
+done

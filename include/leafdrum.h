@@ -28,7 +28,8 @@ enum { LEAFDRUM_NONE = 0, LEAFDRUM_NEW = 1, LEAFDRUM_FOUND = 2, LEAFDRUM_FULL = 
 
 /* refusals; README.md, "Embedding", says what each means */
 enum { LEAFDRUM_REFUSED_SETTINGS = 1, LEAFDRUM_REFUSED_AREA = 2, LEAFDRUM_REFUSED_COUNTS = 3, LEAFDRUM_REFUSED_WORKER = 4, LEAFDRUM_REFUSED_PIXEL = 5,
-       LEAFDRUM_REFUSED_MEMORY = 6, LEAFDRUM_REFUSED_BUSY = 7, LEAFDRUM_REFUSED_IDLE = 8, LEAFDRUM_REFUSED_FULL = 9, LEAFDRUM_REFUSED_SORT = 17 };
+       LEAFDRUM_REFUSED_MEMORY = 6, LEAFDRUM_REFUSED_BUSY = 7, LEAFDRUM_REFUSED_IDLE = 8, LEAFDRUM_REFUSED_FULL = 9, LEAFDRUM_REFUSED_PLACE = 11,
+       LEAFDRUM_REFUSED_SORT = 17 };
 
 typedef struct {
     uint32_t number;           /* 0: carried out; else one of the refusals above */
@@ -67,6 +68,28 @@ leafdrum_reply leafdrum_turn(leafdrum_settings settings, uint32_t worker, LEAFDR
 leafdrum_reply leafdrum_turns(leafdrum_settings settings, const uint8_t *list, size_t count, uint32_t limit, LEAFDRUM_AREAS);
 /* A worker's last answer: "none" before its first call has ended, "open" during a call. Refusals 1, 2, 3, 4, 6. */
 leafdrum_reply leafdrum_last(leafdrum_settings settings, uint32_t worker, LEAFDRUM_AREAS);
+
+/* Listing the flagged pixels while calls are open. The record keeps the listing's place, and leafdrum_next moves it: 0 is "start", so zeroed memory is a listing that
+   begins; after a pixel it is the pixel + 1; LEAFDRUM_LISTING_END is the end. A copy of it can be kept and gone on from. */
+typedef struct {
+    uint32_t place;
+} leafdrum_listing;
+enum { LEAFDRUM_LISTING_START = 0, LEAFDRUM_LISTING_END = 16777217 };
+
+/* what leafdrum_next gives */
+enum { LEAFDRUM_GIVEN_REFUSED = 0, LEAFDRUM_GIVEN_PIXEL = 1, LEAFDRUM_GIVEN_END = 2 };
+typedef struct {
+    uint32_t number; /* 0: carried out; else one of the refusals above, and the record stays as it was */
+    uint32_t answer; /* one of the three above */
+    uint32_t pixel;  /* row * 4096 + column of a pixel, else 0 */
+} leafdrum_given;
+
+/* The smallest reachable pixel above the listing's place, or "end". Between two turns, amid any calls: pixels that could be reached when the listing began come
+   exactly once, rising; one that is placed meanwhile comes if it lies above the place then. Only nodes and levels are read, and no word of them is changed. Over memory
+   of any content: 6 exactly if a reference reached from the root names nothing taken, at the end too. Refusals 1, 2 (of these two areas), 3, 11 (the place is more than
+   LEAFDRUM_LISTING_END), 6. It searches the whole table each time, and needs LEAFDRUM_NEXT_STACK bytes of stack. */
+#define LEAFDRUM_NEXT_STACK 150000
+leafdrum_given leafdrum_next(leafdrum_settings settings, leafdrum_listing *listing, const uint32_t *nodes, size_t node_words, const uint32_t *levels, size_t level_words);
 
 /* The number of levels that the level area holds; 0 for settings out of range. */
 uint32_t leafdrum_level_count(leafdrum_settings settings);

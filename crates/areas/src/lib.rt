@@ -23,7 +23,7 @@ pub enum Cell {
 }
 
 // The place of word k of level g.
-fn level_place(w: u32, g: u32, k: usize) -> usize
+pub fn level_place(w: u32, g: u32, k: usize) -> usize
     requires { ⌜ DigitWidth w ⌝ }
     requires { ⌜ k ≤ 4294967297 ⌝ }
     ensures { λ r. ⌜ r ≡ levelWords w * g + k ⌝ }

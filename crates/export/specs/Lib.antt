@@ -1,3 +1,4 @@
 -- What the C interface gives.
--- Relies on rules and record.
+-- Relies on rules, record and listing.
 pub mod Shown
+pub mod Listed

@@ -1,15 +1,18 @@
 // The C interface: the public operations with their answers as numbers. include/leafdrum.h declares it; tests/headers.py compares the two.
-// Relies on table for the operations, on lists for the parts of a turn and of a list of turns, on turns for a viewer's turn.
+// Relies on table for the operations, on lists for the parts of a turn and of a list of turns, on turns for a viewer's turn, on listing for a "next".
 ghost use mathlib.Core.Path.{_≡_};
 ghost use mathlib.Core.Bool.{true, false};
 ghost use Prim.Native.Nat.{_-_};
-ghost use Rattle.areas.specs.Memory.{areas};
+ghost use Rattle.areas.specs.Memory.{areas, memory};
 ghost use Rattle.record.specs.Kinds.{answerNo, answerNode};
 ghost use Rattle.record.specs.Layout.{headAt};
 ghost use Rattle.rules.specs.Operations.{reply, opening, start, turn, lastAnswer};
 ghost use Rattle.rules.specs.Exchanges.{listReport};
 ghost use Rattle.lists.specs.Cut.{toldReply};
 ghost use Rattle.export.specs.Shown.{numbersOf, shown, exported, exportedList, countOrZero};
+ghost use Rattle.export.specs.Listed.{givenNumbers, NextShown};
+use listing::Given;
+use listing::Listing;
 use lists::Tally;
 use record::Answer;
 use record::Reply;
@@ -228,6 +231,69 @@ pub extern "C" fn leafdrum_last(
 {
     let r = table::last_answer(settings, worker, nodes, levels, workers);
     numbers(r, 0, 0)
+}
+
+// leafdrum_given: the number of the refusal or 0; 0 where it is refused, 1 for a pixel, 2 for "end"; the pixel, else 0.
+#[repr(C)]
+pub struct LeafdrumGiven {
+    pub number: u32,
+    pub answer: u32,
+    pub pixel: u32,
+}
+
+// The same with the place after it.
+pub struct GivenAt {
+    pub given: LeafdrumGiven,
+    pub place: u32,
+}
+
+fn given_numbers(a: Given) -> LeafdrumGiven
+    ensures { λ r. ⌜ r ≡ givenNumbers a ⌝ }
+{
+    match a {
+        Given::Refused(n) => LeafdrumGiven {
+            number: n,
+            answer: 0,
+            pixel: 0,
+        },
+        Given::Pixel(p) => LeafdrumGiven {
+            number: 0,
+            answer: 1,
+            pixel: p,
+        },
+        Given::End => LeafdrumGiven {
+            number: 0,
+            answer: 2,
+            pixel: 0,
+        },
+    }
+}
+
+// A "next" by value: the place goes in, and comes out with what is given.
+fn next_by_value(settings: Settings, place: u32, nodes: &[u32], levels: &[u32]) -> GivenAt
+    ensures { λ r. ⌜ NextShown (settings .width) settings (memory (now (nodes .entry)) (now (levels .entry))) place (r .given) (r .place) ⌝ }
+{
+    let m = listing::next(settings, place, nodes, levels);
+    let a = m.given;
+    GivenAt {
+        given: given_numbers(a),
+        place: m.place,
+    }
+}
+
+// "The listing keeps its place in a small record that each "next" moves on": the record is lent, and this thin function over the step by value moves it.
+#[no_mangle]
+pub extern "C" fn leafdrum_next(
+    settings: Settings,
+    listing: &mut Listing,
+    nodes: &[u32],
+    levels: &[u32],
+) -> LeafdrumGiven
+    ensures { λ r. ⌜ NextShown (settings .width) settings (memory (now (nodes .entry)) (now (levels .entry))) (now (listing .entry) .place) r (now (listing .exit) .place) ⌝ }
+{
+    let m = next_by_value(settings, listing.place, nodes, levels);
+    listing.place = m.place;
+    m.given
 }
 
 // The number of levels that the level area holds; 0 for settings out of range.
