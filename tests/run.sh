@@ -10,10 +10,14 @@ sh tests/records.sh
 python3 tests/readme.py
 out=target/tests
 mkdir -p "$out"
-gcc -O2 -Wall -Wextra -Werror examples/embed.c target/staticlib/libexport.a -o "$out/embed"
-"$out/embed" >"$out/embed.out" || { echo "embed.c: status $?"; exit 1; }
-diff "$out/embed.out" examples/embed.out
-echo "embed.c: as in embed.out"
+for name in embed listing; do
+    gcc -O2 -Wall -Wextra -Werror "examples/$name.c" target/staticlib/libexport.a -o "$out/$name"
+    "$out/$name" >"$out/$name.out" || { echo "$name.c: status $?"; exit 1; }
+    diff "$out/$name.out" "examples/$name.out"
+    echo "$name.c: as in $name.out"
+done
+gcc -std=c99 -O2 -Wall -Wextra -Werror tests/stack.c target/staticlib/libexport.a -o "$out/stack"
+"$out/stack"
 python3 tests/headers.py
 python3 tests/layout.py
 python3 tests/states.py

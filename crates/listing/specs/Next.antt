@@ -35,7 +35,7 @@ pub record Smallest (w : ℕ) (m : Memory) (place p : ℕ) : Type 0 where
 abbrev pub NoneAbove : ℕ → Memory → ℕ → Type 0
 NoneAbove w m place = (q : ℕ) → Reachable w m q → ¬ (Above place q)
 
--- what a "next" at a place gives: one case for each answer, of which exactly one holds (OneAnswer). A refusal leaves the place as it was.
+-- what a "next" at a place gives: one case for each answer. A refusal leaves the place as it was.
 pub data Next (w : ℕ) (s : Settings) (m : Memory) (place : ℕ) : Moved → Type 0 where
   refused : {n : ℕ} → n ≢ 0 → firstNo (questionsOf w s m) ≡ n → Next w s m place (moved (Refused n) place)
   -- "It refuses with 11, asked after question 3, a place that is not start, end or a pixel number."
@@ -45,6 +45,8 @@ pub data Next (w : ℕ) (s : Settings) (m : Memory) (place : ℕ) : Moved → Ty
   given : {p : ℕ} → firstNo (questionsOf w s m) ≡ 0 → ¬ (Dangling w s m) → Smallest w m place p → Next w s m place (moved (Pixel p) (p + 1))
   ended : firstNo (questionsOf w s m) ≡ 0 → place ≤ endPlace → ¬ (Dangling w s m) → NoneAbove w m place → Next w s m place (moved End endPlace)
 
--- settings, memory and place fix what is given: `Next` is the equation of what is given with a function of them
+-- settings, memory and place fix what is given: there is an answer, and only one, so that `Next` is the equation of what is given with a function of them. It is a
+-- relation because `Reached` is one: no definition can ask it as a test
 abbrev pub OneAnswer : Type 0
-OneAnswer = (w : ℕ) (s : Settings) (m : Memory) (place : ℕ) (r r′ : Moved) → Next w s m place r → Next w s m place r′ → r ≡ r′
+OneAnswer =
+    (s : Settings) (m : Memory) (place : ℕ) → (r : Moved) × Next (s .width) s m place r × ((r′ : Moved) → Next (s .width) s m place r′ → r′ ≡ r)

@@ -334,8 +334,8 @@ module _ {w : ℕ} {s : Settings} {m : Memory} {n : ℕ} (F : Fits s n) where
       go (by-previous g d q k′) = from (go k′) (to-previous g refl d q)
 
   -- the answer of a search that does not go on
-  pub flagged : (x : Search) (k : ℕ) → Done w s m n x k → goesOn (x .progress) k ≡ false → Marked w s m (isDangling (x .progress)) (x .marks)
-  flagged x k D e =
+  pub tells-reached : (x : Search) (k : ℕ) → Done w s m n x k → goesOn (x .progress) k ≡ false → Marked w s m (isDangling (x .progress)) (x .marks)
+  tells-reached x k D e =
       record {
         only-then = D .holds .why;
         all-taken = λ a r R. reached-fine x k D (over a) a R .taken;

@@ -19,7 +19,7 @@ use Rattle.reach.specs.declared.Progress.{Progress}
 use Rattle.reach.specs.Cut.{Search, searched, thingOf, progressOf, discovered, metThing, dangles, met, metEntries, metLevel, metPrevious, levelExpanded, expanded, goesOn, round, rounds, unsearched, Fits}
 use Rattle.reach.specs.Marked.{Marked}
 use Rattle.reach.proofs.Things.{thing-below}
-use Rattle.reach.proofs.Exact.{rounds-done, flagged, count-le}
+use Rattle.reach.proofs.Exact.{rounds-done, tells-reached, count-le}
 
 module _ (r : ℕ) where
   pub thing-node : {t : ℕ} → t ≡ named r → isNode r ≡ true → t ≡ thingOf r
@@ -150,7 +150,7 @@ pub rounds-end :
     → searched m q f ≡ rounds w s (memory nodes levels) n k → goesOn f k ≡ false → Fits s n → Marked w s (memory nodes levels) (not (eqb (f .dangling) 0)) m
 rounds-end w nodes levels k m q f c e F =
     let d = rounds-done {w = w} {m = memory nodes levels} F k in
-    flagged F (searched m q f) k (rw (sym c) at d) e
+    tells-reached F (searched m q f) k (rw (sym c) at d) e
 
 module _ (f : Progress) (k : ℕ) where
   pub goes-left : ltb k (f .count) ≡ true → eqb (f .dangling) 0 ≡ goesOn f k

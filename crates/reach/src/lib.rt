@@ -10,8 +10,8 @@ ghost use Rattle.areas.specs.Memory.{memory};
 ghost use Rattle.reach.specs.Cut.{searched, thingOf, progressOf, discovered, metThing, met, metEntries, metLevel, metPrevious, levelExpanded, expanded, goesOn, things, Fits};
 ghost use Rattle.reach.specs.Marked.{Marked};
 ghost use Rattle.reach.specs.Reading.{readingQuestions};
-use areas::level_place;
 use areas::is_node;
+use areas::level_place;
 use areas::named;
 use areas::next_at;
 use areas::previous_at;
@@ -254,7 +254,16 @@ fn explore(s: Settings, nodes: &[u32], levels: &[u32], marks: &mut [u8], queue: 
     requires { ⌜ now queue ≡ replicate things 0 ⌝ }
     ensures { λ b. ⌜ Marked (s .width) s (memory (now (nodes .entry)) (now (levels .entry))) b (now (marks .exit)) ⌝ }
 {
-    let mut f = meet(s, Progress { count: 0, dangling: 0 }, 0, marks, queue);
+    let mut f = meet(
+        s,
+        Progress {
+            count: 0,
+            dangling: 0,
+        },
+        0,
+        marks,
+        queue,
+    );
     let mut k: usize = 0;
     while goes_on(f, k) {
         let t = queue_at(queue, k) as u32;

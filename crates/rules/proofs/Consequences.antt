@@ -128,7 +128,7 @@ late {b} {b′} o (then {b₁ = b₁} {c = h} {cs = cs} k r) (calls.first f q) c
     by (inr x) (inr y) z = z x y
 
 -- a pair in the book was entered by a "new"
-new-in : {b : Book} {cs : List Call} (p n : ℕ) → ReadsRow [] cs b → Holds b p n → NewIn cs p n
+pub new-in : {b : Book} {cs : List Call} (p n : ℕ) → ReadsRow [] cs b → Holds b p n → NewIn cs p n
 new-in {b} {cs} p n r i = by (when-born p r (λ h. List·Memᴰ·not-nil (h .1)) (n, i))
   where
     by : Born [] p cs b → NewIn cs p n
@@ -137,7 +137,7 @@ new-in {b} {cs} p n r i = by (when-born p r (λ h. List·Memᴰ·not-nil (h .1))
         let e : m ≡ n = run-one r none-noted .nodes p m n (rw q at (names-in r c m here (inl a))) i in
         (c, here, q, a ∙ ap New e)
 
-perm-mem : {A : Type 0} {a : A} {xs ys : List A} → List·Permᴰ xs ys → List·Memᴰ a xs → List·Memᴰ a ys
+pub perm-mem : {A : Type 0} {a : A} {xs ys : List A} → List·Permᴰ xs ys → List·Memᴰ a xs → List·Memᴰ a ys
 perm-mem List·Permᴰ·nil i = i
 perm-mem (List·Permᴰ·cons e p) (List·Memᴰ·head q) = List·Memᴰ·head (q ∙ e)
 perm-mem (List·Permᴰ·cons e p) (List·Memᴰ·tail i) = List·Memᴰ·tail (perm-mem p i)

@@ -95,3 +95,4 @@ pub mod OwnExchange
 pub mod Striking
 pub mod Viewers
 pub mod ViewsAlone
+pub mod Staying

@@ -3,12 +3,13 @@
 use Prim.Native.Nat.{ℕ, _*_, _-_, _/_, _≤_, _<_}
 use mathlib.Core.Path.{_≡_, refl, sym, ap, _∙_}
 use mathlib.Core.Logic.{_≢_}
+use mathlib.Core.Bool.{true}
 use native.Mathlib.Omega.{arith}
 use native.Mathlib.Nat.{mul-le-mul}
 use Rattle.words.specs.Digits.{depths}
 use Rattle.settings.specs.Sizes.{levelCount}
 use Rattle.settings.specs.declared.Settings.{Settings}
-use Rattle.areas.specs.Memory.{Memory, levelRef, nodeRef, none, previousAt}
+use Rattle.areas.specs.Memory.{Memory, levelRef, nodeRef, none, previousAt, refTaken}
 use Rattle.rules.specs.Reached.{Reached, root, by-entry, by-next, by-previous}
 use Rattle.trie.proofs.Tree.{Published}
 use Rattle.trie.proofs.World.{Placed, Structure}
@@ -16,7 +17,7 @@ use Rattle.trie.proofs.Reached as theory
 use Rattle.settings.proofs.Laws.{ranges}
 use Rattle.rules.proofs.Dims.{depths-le}
 use Rattle.rules.proofs.Invariant.{WorldOf, Table}
-use Rattle.rules.proofs.Reading.{not-free, level-room, next-reads, previous-reads}
+use Rattle.rules.proofs.Reading.{not-free, level-room, next-reads, previous-reads, real-taken}
 
 -- there are fewer levels than a word has numbers
 level-count-le : {w : ℕ} {s₀ s : Settings} {m : Memory} {W : WorldOf w s₀} → Table w s₀ s m W → levelCount w s₀ < none
@@ -86,3 +87,7 @@ module _ {w : ℕ} {s₀ s : Settings} {m : Memory} {W : WorldOf w s₀} (T : Ta
 
   pub published-reached : (g : ℕ) → Published (W .tree) g → Reached w m (levelRef g)
   published-reached g p = to-words (theory.level-reached S (W .tree .depth g) refl p)
+
+  -- what is reached is taken
+  pub reached-taken : {r : ℕ} → Reached w m r → refTaken s r ≡ true
+  reached-taken R = real-taken T (theory.reached-real S (to-world R))

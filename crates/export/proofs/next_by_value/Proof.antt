@@ -11,7 +11,7 @@ given-numbers-requires : tie.Need-given-numbers-requires
 given-numbers-requires c κs = search needs
 
 returns : tie.Need-returns
-returns c = ?
+returns c = record { answer = c .before .next .result .given; is-next = c .before .next .ensures; in-numbers = c .given-numbers .ensures }
 
 pub next-by-value-spec : {M : Type 1} → statement M
 next-by-value-spec = tie.close (tie.spec next-requires given-numbers-requires returns)

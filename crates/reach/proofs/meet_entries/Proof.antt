@@ -48,9 +48,11 @@ loop-less c = search needs
 loop-again : tie.Need-loop-again Inv-loop μ-loop
 loop-again c =
     let b = c .before .before .before .before in
-    let l = b .before .before .before .before .before .loop .inv in
-    (
-      search needs, search needs, search needs, search needs,
+    let l = b .before .before .before .before .before .loop .inv in (
+      search needs,
+      search needs,
+      search needs,
+      search needs,
       entries-more _ _ _ _ _ _ _ _ _ _ _ (b .meet .ensures .0) (b .before .before .before .at .ensures) (b .before .before .before .before .before .before .before .level-place .ensures .0) (l .4),
     )
 
