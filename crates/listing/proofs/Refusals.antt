@@ -10,7 +10,7 @@ use Rattle.areas.specs.Memory.{Memory}
 use Rattle.rules.specs.Refusals.{FirstNo, AllYes}
 use Rattle.rules.proofs.Questions.{first-no, gives-first-no, all-yes, gives-all-yes, never-first}
 use Rattle.reach.specs.Reading.{readingQuestions, questionsOf}
-use Rattle.listing.specs.Next.{Next, refused, no-place, dangling, given, ended}
+use Rattle.listing.specs.Next.{refused, no-place, dangling, given, ended}
 use Rattle.listing.specs.Refusals.{numberOf, NextStatement}
 use Rattle.listing.proofs.Unique.{in-range}
 

@@ -1,6 +1,6 @@
 -- Questions 1 to 3 of the operations that read nodes and levels alone: how they are asked, and what a yes says.
 -- Relies on settings for the questions.
-use mathlib.Core.Path.{_≡_, refl, sym, ap, _∙_}
+use mathlib.Core.Path.{_≡_, refl, sym, _∙_}
 use mathlib.Core.Bool.{Bool, true, false}
 use Prim.Native.Nat.{ℕ, _*_, _≤_}
 use native.Mathlib.Nat.{le-refl}

@@ -1,7 +1,7 @@
 -- The ways through the functions of the search, one law for each: from what the calls give to what the function ensures.
 -- Relies on Things for references, on Exact for what holds of a search.
 use mathlib.Core.Path.{_≡_, refl, sym, _∙_}
-use mathlib.Core.Bool.{Bool, true, false, not}
+use mathlib.Core.Bool.{true, false, not}
 use mathlib.Core.List.{List}
 use Prim.Native.Nat.{ℕ, _+_, _*_, _-_, _≤_, _<_}
 use native.Mathlib.Omega.{arith}

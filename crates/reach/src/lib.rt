@@ -1,4 +1,4 @@
-// The search for everything that is reached from the root, over memory of any content. Document 02, Req 01 to 04 use it.
+// The search for everything that is reached from the root, over memory of any content.
 // Relies on areas for the words and on settings for sizes.
 ghost use mathlib.Core.Path.{_≡_};
 ghost use Prim.Native.Nat.{_+_, _≤_, _<_};
@@ -19,11 +19,9 @@ use areas::ref_taken;
 use settings::Settings;
 use settings::entries;
 use words::at;
-use words::eq;
-use words::lt;
 
 // The most levels of a table: at width 2, with the most nodes and workers, at chain limit 1.
-pub const LEVELS: usize = 45073;
+const LEVELS: usize = 45073;
 
 // Nodes and levels are things in one numbering: node i is thing i, level g is the thing after all nodes and g levels.
 pub const THINGS: usize = (Settings::MAX_NODES as usize) + LEVELS;
@@ -31,8 +29,8 @@ pub const THINGS: usize = (Settings::MAX_NODES as usize) + LEVELS;
 // The previous word that leads nowhere.
 const NONE: u32 = 4294967295;
 
-// Questions 1 to 3 of an operation that reads nodes and levels alone: the number of the first no, or 0. No worker's word is asked for: as many as are needed are said
-// to be there.
+// Questions 1 to 3 of an operation that reads nodes and levels alone: the number of the first no, or 0. Of the workers' area as many words as are needed are said to
+// be there.
 pub fn refused_reading(s: Settings, nodes: usize, levels: usize) -> u32
     ensures { λ r. ⌜ r ≡ firstNo (readingQuestions (s .width) s nodes levels) ⌝ }
 {
@@ -43,8 +41,8 @@ pub fn refused_reading(s: Settings, nodes: usize, levels: usize) -> u32
     )
 }
 
-// How far a search is: how many things were discovered, and 1 once a reference named nothing taken, else 0. Two words of one size: a struct with padding
-// is copied in pieces at every step.
+// How far a search is: how many things were discovered, and 1 once a reference named nothing taken, else 0. Numbers of 64 bits, since two of 32 would be packed
+// into one register and taken apart at each reference.
 pub struct Progress {
     pub count: usize,
     pub dangling: usize,
