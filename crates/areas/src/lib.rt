@@ -16,6 +16,9 @@ use words::fill_words;
 use words::lt;
 use words::put;
 
+// The previous word that leads nowhere.
+pub const NONE: u32 = 4294967295;
+
 // A cell: an entry of a level (level, entry), or the next word of a node.
 pub enum Cell {
     Entry(u32, u32),

@@ -15,10 +15,9 @@ use Rattle.words.specs.Digits.{maxPixel}
 use Rattle.words.proofs.Choice.{pick-both, both-left, both-right, both-true, true-false}
 use Rattle.settings.specs.declared.Settings.{Settings}
 use Rattle.areas.specs.Memory.{Memory, pixelAt}
-use Rattle.reach.specs.Cut.{Fits, things}
 use Rattle.reach.specs.Reachable.{Reachable}
-use Rattle.reach.specs.Marked.{Marked}
-use Rattle.reach.proofs.Pixels.{not-dangling, reached-below}
+use Rattle.reach.specs.Marked.{Marked, Fits, things}
+use Rattle.reach.proofs.Exact.{not-dangling, reached-below}
 use Rattle.listing.specs.Cut.{lesser, withNode, leastOf, SeenFrom}
 
 module _ (nodes marks : List ℕ) (place : ℕ) where

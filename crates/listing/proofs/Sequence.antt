@@ -17,7 +17,10 @@ use Rattle.areas.specs.Memory.{Areas}
 use Rattle.rules.specs.Operations.{AtWidth, opening, memoryOf}
 use Rattle.rules.specs.Lists.{State, after}
 use Rattle.rules.specs.Calls.{Event, happens, stateAfter}
+use Rattle.rules.specs.Demands.{Row}
+use Rattle.rules.specs.Refusals.{Iff}
 use Rattle.rules.specs.Consequences.{Shown}
+use Rattle.rules.proofs.Consequences.{follows}
 use Rattle.rules.proofs.Dims.{Width}
 use Rattle.rules.proofs.Questions.{all-yes}
 use Rattle.rules.proofs.Sequence.{after-append}
@@ -30,7 +33,7 @@ use Rattle.listing.specs.declared.Given.the-variants.{Pixel, End}
 use Rattle.listing.specs.declared.Moved.{Moved}
 use Rattle.listing.specs.Next.{endPlace, moved, Smallest, NoneAbove, Next, refused, no-place, dangling, given, ended}
 use Rattle.listing.specs.Refusals.{numberOf}
-use Rattle.listing.specs.Sequence.{Step, event, next, eventsIn, stateAt, placeAfter, isPixel, times, Ends, Shows, Places, ListingMeets, ListingStatement}
+use Rattle.listing.specs.Sequence.{Step, event, next, eventsIn, stateAt, placeAfter, isPixel, times, Ends, Shows, Places, ListingMeets, ListingStatement, InBook, PlacedStatement}
 
 -- the two answers of a "next" that is not refused
 data Own (w : ℕ) (x : State) (place : ℕ) : Moved → Type 0 where
@@ -241,6 +244,7 @@ module _ {w k : ℕ} where
     meets =
         record {
           carried = λ before m rest q. own-number (own-at before m rest q .0);
+          moves-on = λ before m rest q. let o = own-at before m rest q .0 in (λ p e. own-pixel o (given-pixel e) .1, own-end o);
           once = λ before rest q z E p R. let l : placeAfter k 0 before ≤ p = omega arith in comes-in-all before rest q E p l (R .is-pixel) (λ B u. comes B p R l u);
           rising = λ before m between m′ rest q p p′ e e′.
               let (o, g, o′) = two-at before m between m′ rest q in
@@ -310,3 +314,20 @@ listings-at w width s a z steps A k = meets (told width s a z k steps (record { 
 -- document 02's tables, each at the width that its settings give
 pub listings : AtWidth ListingStatement
 listings s a z = listings-at (s .width) (opened-width (s .width) s a z) s a z
+
+-- a pixel can be reached exactly if it stands in the book of a row
+book-shows : {w : ℕ} {x : State} {es : List Event} (R : Row w x es) (p : ℕ) → Iff (Shows w (stateAfter w es x) p) (InBook (R .book) p)
+book-shows R p = (
+  λ h. (h .node, follows R .shown-placed p (h .node) (record { reached = h .reached; pixel-is = h .holds })),
+  λ (n, h).
+      let (r, q) = R .reached .in-memory p n h in
+      record { node = n; reached = r; holds = q; is-pixel = rw q at (R .reached .in-book n r .1) },
+)
+
+pub placed : PlacedStatement
+placed w x es e before then p =
+    let (to, from) = book-shows before p in
+    let (to′, from′) = book-shows then p in (
+      λ P. (λ b. P .not-before (from b), to′ (rw (after-append w es (e ∷ []) x) (P .after-it))),
+      λ (n, b). record { not-before = λ h. n (to h); after-it = rw (after-append w es (e ∷ []) x) at (from′ b) },
+    )

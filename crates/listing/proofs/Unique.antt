@@ -11,7 +11,8 @@ use borrow.Author.Tests.{leb-true, leb-false, le-ltb}
 use Rattle.words.specs.Choice.{both, firstNo}
 use Rattle.settings.specs.declared.Settings.{Settings}
 use Rattle.areas.specs.Memory.{Memory}
-use Rattle.reach.specs.Cut.{Search, Fits, things, isDangling, goesOn, rounds}
+use Rattle.reach.specs.Cut.{Search, isDangling, goesOn, rounds}
+use Rattle.reach.specs.Marked.{Fits, things}
 use Rattle.reach.specs.Reading.{questionsOf}
 use Rattle.reach.proofs.Exact.{count-le, rounds-done, tells-reached}
 use Rattle.reach.proofs.Reading.{reading-fits}
@@ -33,7 +34,7 @@ smallest-one {p = p} {q = q} S T =
 pub in-range : {w : ℕ} {m : Memory} {place p : ℕ} → Smallest w m place p → ¬ (endPlace < place)
 in-range S l = let a = S .above in let b = S .reachable .is-pixel in omega arith
 
-pub same-answer : (w : ℕ) (s : Settings) (m : Memory) (place : ℕ) (r r′ : Moved) → Next w s m place r → Next w s m place r′ → r ≡ r′
+same-answer : (w : ℕ) (s : Settings) (m : Memory) (place : ℕ) (r r′ : Moved) → Next w s m place r → Next w s m place r′ → r ≡ r′
 same-answer w s m place _ _ (refused h e) (refused h′ e′) = ap (λ n. moved (Refused n) place) (sym e ∙ e′)
 same-answer w s m place _ _ (refused h e) (no-place z l) = absurd (h (sym e ∙ z))
 same-answer w s m place _ _ (refused h e) (dangling z l d) = absurd (h (sym e ∙ z))

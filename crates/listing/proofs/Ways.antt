@@ -14,8 +14,7 @@ use Rattle.words.specs.Digits.{maxPixel}
 use Rattle.words.proofs.Choice.{pick-both}
 use Rattle.settings.specs.declared.Settings.{Settings}
 use Rattle.areas.specs.Memory.{memory, pixelAt}
-use Rattle.reach.specs.Cut.{Fits, things}
-use Rattle.reach.specs.Marked.{Marked}
+use Rattle.reach.specs.Marked.{Marked, Fits, things}
 use Rattle.reach.specs.Reading.{questionsOf}
 use Rattle.listing.specs.declared.Moved.{Moved}
 use Rattle.listing.specs.declared.Seen.{Seen}

@@ -37,12 +37,15 @@ NoneAbove w m place = (q : ℕ) → Reachable w m q → ¬ (Above place q)
 
 -- what a "next" at a place gives: one case for each answer. A refusal leaves the place as it was.
 pub data Next (w : ℕ) (s : Settings) (m : Memory) (place : ℕ) : Moved → Type 0 where
+  -- questions 1 to 3
   refused : {n : ℕ} → n ≢ 0 → firstNo (questionsOf w s m) ≡ n → Next w s m place (moved (Refused n) place)
   -- "It refuses with 11, asked after question 3, a place that is not start, end or a pixel number."
   no-place : firstNo (questionsOf w s m) ≡ 0 → endPlace < place → Next w s m place (moved (Refused 11) place)
   -- "its 6 is given if a reference reached from the root names nothing taken, and only then", at "end" too
   dangling : firstNo (questionsOf w s m) ≡ 0 → place ≤ endPlace → Dangling w s m → Next w s m place (moved (Refused 6) place)
+  -- "the smallest reachable pixel number above the last one given"
   given : {p : ℕ} → firstNo (questionsOf w s m) ≡ 0 → ¬ (Dangling w s m) → Smallest w m place p → Next w s m place (moved (Pixel p) (p + 1))
+  -- "or "end""
   ended : firstNo (questionsOf w s m) ≡ 0 → place ≤ endPlace → ¬ (Dangling w s m) → NoneAbove w m place → Next w s m place (moved End endPlace)
 
 -- settings, memory and place fix what is given: there is an answer, and only one, so that `Next` is the equation of what is given with a function of them. It is a

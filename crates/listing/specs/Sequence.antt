@@ -10,12 +10,14 @@ use Rattle.settings.specs.declared.Settings.{Settings}
 use Rattle.areas.specs.Memory.{Areas}
 use Rattle.rules.specs.Operations.{opening, memoryOf}
 use Rattle.rules.specs.Lists.{State, after}
-use Rattle.rules.specs.Calls.{Event, stateAfter}
+use Rattle.rules.specs.Calls.{Event, stateAfter, Book, Holds}
+use Rattle.rules.specs.Demands.{Row}
+use Rattle.rules.specs.Refusals.{Iff}
 use Rattle.reach.specs.Reachable.{Reachable}
 use Rattle.listing.specs.declared.Given.{Given}
 use Rattle.listing.specs.declared.Given.the-variants.{Refused, Pixel, End}
 use Rattle.listing.specs.declared.Moved.{Moved}
-use Rattle.listing.specs.Next.{Next, Above}
+use Rattle.listing.specs.Next.{Next, Above, endPlace}
 use Rattle.listing.specs.Refusals.{numberOf}
 
 -- a start or a turn, or a "next" of listing k with what it gave and its place after it. There are any number of listings: each number names one.
@@ -43,7 +45,8 @@ placeAfter k place (next j m ∷ rest) = placeAfter k (pick (eqb j k) (m .place)
 abbrev pub placeOf : ℕ → List Step → ℕ
 placeOf k steps = placeAfter k 0 steps
 
--- every "next" gives what Next says of the state and the place that it finds
+-- every "next" gives what Next says of the state and the place that it finds. The code's is at the width of the settings that it is handed, which along a sequence stays
+-- w (`width-stays` of demand 3)
 abbrev pub Answered : ℕ → State → List Step → Type 0
 Answered w x steps =
     (before : List Step) (k : ℕ) (m : Moved) (rest : List Step) → steps ≡ before ++ next k m ∷ rest
@@ -73,7 +76,7 @@ pub record Ends (k : ℕ) (steps : List Step) : Type 0 where
 abbrev pub Shows : ℕ → State → ℕ → Type 0
 Shows w x p = Reachable w (memoryOf (x .areas)) p
 
--- event e places pixel p: it can be reached after it and could not before
+-- event e places pixel p: it can be reached after it and could not before. That is document 01's "placed", to stand in the book (PlacedStatement)
 pub record Places (w : ℕ) (x : State) (e : Event) (p : ℕ) : Type 0 where
   pub not-before : ¬ (Shows w x p)
   pub after-it : Shows w (stateAfter w (e ∷ []) x) p
@@ -82,6 +85,11 @@ pub record Places (w : ℕ) (x : State) (e : Event) (p : ℕ) : Type 0 where
 pub record ListingMeets (w : ℕ) (x : State) (k : ℕ) (steps : List Step) : Type 0 where
   -- excludes: a "next" that gives 6 amid a Move; one that refuses a place that it gave
   pub carried : (before : List Step) (m : Moved) (rest : List Step) → steps ≡ before ++ next k m ∷ rest → numberOf (m .given) ≡ 0
+  -- the place is that of the pixel given, or "end"
+  -- excludes: a place that goes ahead to the next pixel, so that one placed between is missed; one that stays where it was
+  pub moves-on :
+      (before : List Step) (m : Moved) (rest : List Step) → steps ≡ before ++ next k m ∷ rest
+      → ((p : ℕ) → m .given ≡ Pixel p → m .place ≡ p + 1) × (m .given ≡ End → m .place ≡ endPlace)
   -- "pixels that could be reached when the listing began come exactly once": it is at "start", and comes to its "end"
   -- excludes: a walk by entries alone, which leaves out a node that hangs by a previous word amid a Move; a "next" that gives the pixel of its place again
   pub once :
@@ -116,3 +124,13 @@ abbrev pub ListingStatement : ℕ → Settings → Type 0
 ListingStatement w s =
     (a : Areas) → opening w s a .reply .number ≡ 0 → (steps : List Step) → Answered w (after (opening w s a)) steps
     → (k : ℕ) → ListingMeets w (after (opening w s a)) k steps
+
+-- pixel p has a node in the book
+abbrev pub InBook : Book → ℕ → Type 0
+InBook b p = (n : ℕ) × Holds b p n
+
+-- what an event places enters the book with it: for every row of the calls before and every row of those after
+abbrev pub PlacedStatement : Type 0
+PlacedStatement =
+    (w : ℕ) (x : State) (es : List Event) (e : Event) (before : Row w x es) (then : Row w x (es ++ e ∷ [])) (p : ℕ)
+    → Iff (Places w (stateAfter w es x) e p) ((¬ (InBook (before .book) p)) × InBook (then .book) p)

@@ -3,7 +3,7 @@
 ghost use mathlib.Core.Path.{_≡_};
 ghost use Rattle.words.specs.Digits.{DigitWidth};
 ghost use Rattle.areas.specs.Memory.{memory};
-ghost use Rattle.reach.specs.Cut.{Fits, things};
+ghost use Rattle.reach.specs.Marked.{Fits, things};
 ghost use Rattle.listing.specs.Cut.{lesser, withNode, leastOf, SeenFrom, answered};
 ghost use Rattle.listing.specs.Next.{Next, moved};
 use areas::pixel_at;
@@ -22,7 +22,8 @@ pub struct Listing {
     pub place: u32,
 }
 
-pub const END: u32 = Settings::MAX_PIXEL + 2;
+// The place at its end.
+const END: u32 = Settings::MAX_PIXEL + 2;
 
 // What a "next" gives.
 pub enum Given {
@@ -93,6 +94,7 @@ fn seen_from(s: Settings, nodes: &[u32], levels: &[u32], place: u32) -> Seen
     }
 }
 
+// A refusal leaves the place.
 fn refuse(n: u32, place: u32) -> Moved
     ensures { λ r. ⌜ r ≡ moved (Given.Refused n) place ⌝ }
 {

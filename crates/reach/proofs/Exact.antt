@@ -3,6 +3,7 @@
 use mathlib.Core.Path.{_≡_, refl, ap, sym, _∙_}
 use mathlib.Core.Logic.{_≢_, _⊎_, inl, inr}
 use mathlib.Core.Bool.{Bool, true, false, not}
+use mathlib.Core.List.{List}
 use Prim.Native.Nat.{ℕ, zero, suc, _+_, _-_, _≤_, _<_}
 use native.Mathlib.Decide.{ℕ-discrete}
 use native.Mathlib.Omega.{arith}
@@ -16,11 +17,11 @@ use Rattle.settings.specs.declared.Settings.{Settings}
 use Rattle.settings.specs.Sizes.{maxNodes}
 use Rattle.areas.specs.Memory.{Memory, levelRef, nodeRef, none, nextAt, previousAt, entryAt, refTaken}
 use Rattle.rules.specs.Reached.{Reached, root, by-entry, by-next, by-previous}
-use Rattle.reach.specs.Cut.{Search, thingOf, refOf, progressOf, isDangling, discovered, metThing, dangles, met, metEntries, metPrevious, levelExpanded, expanded, goesOn, round, rounds, unsearched, Fits}
+use Rattle.reach.specs.Cut.{Search, thingOf, refOf, progressOf, isDangling, discovered, metThing, dangles, met, metEntries, metPrevious, levelExpanded, expanded, goesOn, round, rounds, unsearched}
 use Rattle.reach.specs.Reachable.{Dangling}
-use Rattle.reach.specs.Marked.{Marked}
+use Rattle.reach.specs.Marked.{Marked, Fits}
 use Rattle.reach.proofs.Marks.{ones, ones-le, ones-room, ones-set, ones-none}
-use Rattle.reach.proofs.Things.{node-thing, level-thing, node-ref, level-ref, thing-level-ref, met-level, thing-ref, thing-below}
+use Rattle.reach.proofs.Things.{node-thing, node-ref, level-ref, met-level, thing-ref, thing-below, node-taken}
 
 -- one reference leads to another in one step
 pub data Leads (w : ℕ) (m : Memory) : ℕ → ℕ → Type 0 where
@@ -64,18 +65,18 @@ pub record Holds (w : ℕ) (s : Settings) (m : Memory) (n : ℕ) (x : Search) : 
   pub sound : (j : ℕ) → j < x .progress .count → Reached w m (refOf (getD (x .queue) j 0))
   pub why : isDangling (x .progress) ≡ true → Dangling w s m
 
--- y comes after x, and met every reference of P unless it went astray
+-- y comes after x, and met every reference of P unless one of them named nothing taken
 pub record Met (w : ℕ) (s : Settings) (m : Memory) (n : ℕ) (x y : Search) (P : ℕ → Type 0) : Type 0 where
   pub holds : Holds w s m n y
   pub grows : Grows x y
   pub fine : isDangling (y .progress) ≡ false → (r : ℕ) → P r → Fine s y r
 
 module _ {w : ℕ} {s : Settings} {m : Memory} {n : ℕ} (F : Fits s n) where
-  -- there are never more things found than there is room for
+  -- there are never more things discovered than there is room for
   pub count-le : {x : Search} → Holds w s m n x → x .progress .count ≤ n
   count-le {x} H = let o = ones-le (x .marks) in omega (arith, H .counted, H .marks-length)
 
-  -- a thing is found
+  -- a thing is discovered
   discovered-met : (x : Search) (r : ℕ) → Holds w s m n x → Reached w m r → refTaken s r ≡ true → getD (x .marks) (thingOf r) 0 ≡ 0 → Met w s m n x (discovered x (thingOf r)) (λ r′. r′ ≡ r)
   unfolding discovered progressOf
   discovered-met x r H R k z =
@@ -155,7 +156,7 @@ module _ {w : ℕ} {s : Settings} {m : Memory} {n : ℕ} (F : Fits s n) where
       }
 
   -- a reference that is reached is met
-  pub met-met : (x : Search) (r : ℕ) → Holds w s m n x → Reached w m r → Met w s m n x (met s x r) (λ r′. r′ ≡ r)
+  met-met : (x : Search) (r : ℕ) → Holds w s m n x → Reached w m r → Met w s m n x (met s x r) (λ r′. r′ ≡ r)
   unfolding met metThing
   met-met x r H R =
       pick-both (λ y. Met w s m n x y (λ r′. r′ ≡ r)) (refTaken s r)
@@ -317,7 +318,7 @@ module _ {w : ℕ} {s : Settings} {m : Memory} {n : ℕ} (F : Fits s n) where
       record { holds = M .holds; root-fine = λ a. M .fine a (levelRef 0) refl; closed = λ a j h. absurd (omega arith) }
   rounds-done (suc k) = round-done (rounds w s m n k) k (rounds-done k)
 
-  -- a search that does not go on found everything that is reached
+  -- a search that does not go on has discovered everything that is reached
   reached-fine : (x : Search) (k : ℕ) → Done w s m n x k → x .progress .count ≤ k → isDangling (x .progress) ≡ false → {r : ℕ} → Reached w m r → Fine s x r
   reached-fine x k D c a R = go R
     where
@@ -345,12 +346,6 @@ module _ {w : ℕ} {s : Settings} {m : Memory} {n : ℕ} (F : Fits s n) where
             let p : refOf (getD (x .queue) j 0) ≡ nodeRef i = ap refOf q ∙ node-ref i h in
             rw p at (D .holds .sound j b);
         reached-marked = λ a i R. rw (node-thing i) at (reached-fine x k D (over a) a R .marked);
-        marked-level =
-            λ g o.
-            let (j, b, q) = D .holds .queued (maxNodes + g) o in
-            let p : refOf (getD (x .queue) j 0) ≡ levelRef g = ap refOf q ∙ thing-level-ref g in
-            rw p at (D .holds .sound j b);
-        level-marked = λ a g R. rw (level-thing g) at (reached-fine x k D (over a) a R .marked);
       }
     where
       over : isDangling (x .progress) ≡ false → x .progress .count ≤ k
@@ -359,3 +354,12 @@ module _ {w : ℕ} {s : Settings} {m : Memory} {n : ℕ} (F : Fits s n) where
           by : (b : Bool) → ltb k (x .progress .count) ≡ b → x .progress .count ≤ k
           by true z = absurd (true-false (sym (goes-all x k (ltb-true _ _ z) a) ∙ e))
           by false z = ltb-false _ _ z
+
+-- what the marks tell where the search met no reference to nothing taken
+module _ {w : ℕ} {s : Settings} {m : Memory} {a : Bool} {marks : List ℕ} (X : Marked w s m a marks) where
+  pub not-dangling : a ≡ false → ¬ (Dangling w s m)
+  not-dangling e y = true-false (sym (X .all-taken e (y .reference) (y .reached)) ∙ y .names-nothing)
+
+  -- a reached node is one of the taken ones
+  pub reached-below : a ≡ false → (i : ℕ) → Reached w m (nodeRef i) → i < s .«nodes_taken»
+  reached-below e i R = node-taken s i (X .all-taken e (nodeRef i) R)

@@ -2,19 +2,18 @@
 -- Relies on settings for the questions.
 use mathlib.Core.Path.{_≡_, refl, sym, _∙_}
 use mathlib.Core.Bool.{Bool, true, false}
-use Prim.Native.Nat.{ℕ, _*_, _≤_}
+use Prim.Native.Nat.{ℕ, _*_}
 use native.Mathlib.Nat.{le-refl}
 use native.Mathlib.Omega.{arith}
 use lib.Dec.{leb}
-use borrow.Author.Tests.{leb-true, le-leb}
+use borrow.Author.Tests.{le-leb}
 use Rattle.words.specs.Choice.{both, firstNo}
 use Rattle.words.specs.Digits.{DigitWidth}
-use Rattle.words.proofs.Choice.{both-left, both-right}
 use Rattle.settings.specs.declared.Settings.{Settings}
-use Rattle.settings.specs.Sizes.{nodeWords, levelWords, workerWords, levelCount, question2, question3, within}
+use Rattle.settings.specs.Sizes.{nodeWords, levelWords, workerWords, levelCount, question2}
 use Rattle.settings.specs.Cut.{firstThree}
-use Rattle.settings.proofs.Laws.{three-yes, sized}
-use Rattle.reach.specs.Cut.{Fits, things}
+use Rattle.settings.proofs.Laws.{sized}
+use Rattle.reach.specs.Marked.{Fits, things}
 use Rattle.reach.specs.Reading.{question2Read, readingQuestions}
 
 both-end : (a b : Bool) {c : Bool} → c ≡ true → both a (both b c) ≡ both a b
@@ -43,10 +42,7 @@ module _ (s : Settings) (n g : ℕ) {q : ℕ} (a : q ≡ firstNo (readingQuestio
 
   -- and that the search has room
   pub reading-fits : Fits s things
-  unfolding question3 within
   reading-fits =
       let d = sized s n g (workerWords * s .workers) yes in
-      let c : question3 (s .width) s ≡ true = three-yes (s .width) s n g (workerWords * s .workers) yes .2 in
-      let l : 1 ≤ s .«levels_taken» = leb-true _ _ (both-left _ _ (both-right (leb (s .«nodes_taken») (s .nodes)) _ c)) in
       let r = d .ranges .nodes .high in
-      record { nodes = omega (arith, d .nodes); root = l; levels = omega (arith, d .levels) }
+      record { nodes = omega (arith, d .nodes); levels = omega (arith, d .levels) }

@@ -6,6 +6,8 @@ use mathlib.Core.List.{List}
 use Prim.Native.Nat.{ℕ, _+_, _*_, _-_, _≤_, _<_}
 use native.Mathlib.Omega.{arith}
 use native.Mathlib.Numerals.{add-one}
+use mir.Syntax.{w32}
+use mir.Val as val
 use lib.Dec.{eqb, ltb}
 use lib.ListN.{getD, set, replicate}
 use borrow.Author.Tests.{ltb-true}
@@ -14,10 +16,10 @@ use Rattle.words.specs.Choice.{pick, both}
 use Rattle.words.specs.Digits.{base}
 use Rattle.settings.specs.declared.Settings.{Settings}
 use Rattle.settings.specs.Sizes.{maxNodes, levelWords}
-use Rattle.areas.specs.Memory.{memory, isNode, named, none, nextAt, previousAt, entryAt, refTaken}
+use Rattle.areas.specs.Memory.{memory, isNode, named, none, nextAt, previousAt, entryAt, levelTaken, refTaken}
 use Rattle.reach.specs.declared.Progress.{Progress}
-use Rattle.reach.specs.Cut.{Search, searched, thingOf, progressOf, discovered, metThing, dangles, met, metEntries, metLevel, metPrevious, levelExpanded, expanded, goesOn, round, rounds, unsearched, Fits}
-use Rattle.reach.specs.Marked.{Marked}
+use Rattle.reach.specs.Cut.{Search, searched, thingOf, progressOf, discovered, metThing, dangles, met, metEntries, metLevel, metPrevious, levelExpanded, expanded, goesOn, round, rounds, unsearched}
+use Rattle.reach.specs.Marked.{Marked, Fits, things}
 use Rattle.reach.proofs.Things.{thing-below}
 use Rattle.reach.proofs.Exact.{rounds-done, tells-reached, count-le}
 
@@ -33,6 +35,15 @@ module _ (r : ℕ) where
 -- the thing of a taken reference is one of n
 pub thing-fits : {s : Settings} {n : ℕ} (r : ℕ) {t : ℕ} → t ≡ thingOf r → refTaken s r ≡ true → Fits s n → t < n
 thing-fits r a e F = rw a (thing-below F r e)
+
+-- and so is that of a taken level, and a word holds it
+module _ {s : Settings} (g : ℕ) (e : levelTaken s g ≡ true) (F : Fits s things) where
+  pub level-fits : maxNodes + g < things
+  unfolding levelTaken
+  level-fits = let l : g < s .«levels_taken» = ltb-true _ _ e in omega (arith, F .levels)
+
+  pub level-word : val.Fits w32 (maxNodes + g)
+  level-word = let l = level-fits in record { fits = omega arith }
 
 pub dangle-bound : (f : Progress) {f′ : Progress} → f′ ≡ progressOf (f .count) 1 → f′ .count ≤ f .count + 1
 unfolding progressOf
@@ -62,11 +73,11 @@ module _ (m q : List ℕ) (f : Progress) where
     unfolding met dangles pick
     met-dangles r a e = simp (e, a)
 
-    pub level-taken : (g : ℕ) {y : Search} → y ≡ metThing (searched m q f) (maxNodes + g) → ltb g (s .«levels_taken») ≡ true → y ≡ metLevel s (searched m q f) g
+    pub level-taken : (g : ℕ) {y : Search} → y ≡ metThing (searched m q f) (maxNodes + g) → levelTaken s g ≡ true → y ≡ metLevel s (searched m q f) g
     unfolding metLevel pick
     level-taken g a e = simp (e, a)
 
-    pub level-dangles : (g : ℕ) {f′ : Progress} → f′ ≡ progressOf (f .count) 1 → ltb g (s .«levels_taken») ≡ false → searched m q f′ ≡ metLevel s (searched m q f) g
+    pub level-dangles : (g : ℕ) {f′ : Progress} → f′ ≡ progressOf (f .count) 1 → levelTaken s g ≡ false → searched m q f′ ≡ metLevel s (searched m q f) g
     unfolding metLevel dangles pick
     level-dangles g a e = simp (e, a)
 

@@ -1,6 +1,6 @@
 -- The search as the code makes it: things, marks, the queue of what was discovered, and rounds. A reader need not believe it: Exact ties it to what is reached.
 -- Relies on areas for the words, on settings for sizes.
-use Prim.Native.Nat.{ℕ, zero, suc, _+_, _-_, _≤_}
+use Prim.Native.Nat.{ℕ, zero, suc, _+_, _-_}
 use mathlib.Core.Bool.{Bool, not}
 use mathlib.Core.List.{List}
 use lib.Dec.{eqb, ltb}
@@ -8,13 +8,9 @@ use lib.ListN.{getD, set, replicate}
 use Rattle.words.specs.Choice.{pick, both}
 use Rattle.words.specs.Digits.{base}
 use Rattle.settings.specs.declared.Settings.{Settings}
-use Rattle.settings.specs.Sizes.{maxNodes, mostLevels}
-use Rattle.areas.specs.Memory.{Memory, levelRef, nodeRef, isNode, named, none, nextAt, previousAt, entryAt, refTaken}
+use Rattle.settings.specs.Sizes.{maxNodes}
+use Rattle.areas.specs.Memory.{Memory, levelRef, nodeRef, isNode, named, none, nextAt, previousAt, entryAt, levelTaken, refTaken}
 use Rattle.reach.specs.declared.Progress.{Progress}
-
--- the most things of a table: 4,096 nodes, and 45,073 levels
-abbrev pub things : ℕ
-things = maxNodes + mostLevels
 
 -- Things are nodes and levels in one numbering: node i is thing i, level g is the thing after all nodes and g levels.
 unfoldable pub thingOf : ℕ → ℕ
@@ -38,6 +34,7 @@ pub record Search : Type 0 where
   pub queue : List ℕ
   pub progress : Progress
 
+-- a search by its parts
 abbrev pub searched : List ℕ → List ℕ → Progress → Search
 searched marks queue f = record { marks = marks; queue = queue; progress = f }
 
@@ -65,7 +62,7 @@ metEntries w s levels g x (suc n) = met s (metEntries w s levels g x n) (entryAt
 
 -- a level's number is met
 unfoldable pub metLevel : Settings → Search → ℕ → Search
-metLevel s x g = pick (ltb g (s .«levels_taken»)) (metThing x (maxNodes + g)) (dangles x)
+metLevel s x g = pick (levelTaken s g) (metThing x (maxNodes + g)) (dangles x)
 
 -- the previous word of a level is met unless it is "none"
 unfoldable pub metPrevious : Settings → Search → ℕ → Search
@@ -95,9 +92,3 @@ unsearched n = searched (replicate n 0) (replicate n 0) (progressOf 0 0)
 unfoldable pub rounds : ℕ → Settings → Memory → ℕ → ℕ → Search
 rounds w s m n zero = met s (unsearched n) (levelRef 0)
 rounds w s m n (suc k) = round w s m (rounds w s m n k) k
-
--- what the search needs of the settings: every taken node and level is one of n things, and the root is taken
-pub record Fits (s : Settings) (n : ℕ) : Type 0 where
-  pub nodes : s .«nodes_taken» ≤ maxNodes
-  pub root : 1 ≤ s .«levels_taken»
-  pub levels : maxNodes + s .«levels_taken» ≤ n

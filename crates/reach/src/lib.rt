@@ -7,11 +7,13 @@ ghost use Rattle.words.specs.Choice.{firstNo};
 ghost use Rattle.words.specs.Digits.{DigitWidth, base};
 ghost use Rattle.settings.specs.Sizes.{mostEntries};
 ghost use Rattle.areas.specs.Memory.{memory};
-ghost use Rattle.reach.specs.Cut.{searched, thingOf, progressOf, discovered, metThing, met, metEntries, metLevel, metPrevious, levelExpanded, expanded, goesOn, things, Fits};
-ghost use Rattle.reach.specs.Marked.{Marked};
+ghost use Rattle.reach.specs.Cut.{searched, thingOf, progressOf, discovered, metThing, met, metEntries, metLevel, metPrevious, levelExpanded, expanded, goesOn};
+ghost use Rattle.reach.specs.Marked.{Marked, Fits, things};
 ghost use Rattle.reach.specs.Reading.{readingQuestions};
+use areas::NONE;
 use areas::is_node;
 use areas::level_place;
+use areas::level_taken;
 use areas::named;
 use areas::next_at;
 use areas::previous_at;
@@ -26,11 +28,8 @@ const LEVELS: usize = 45073;
 // Nodes and levels are things in one numbering: node i is thing i, level g is the thing after all nodes and g levels.
 pub const THINGS: usize = (Settings::MAX_NODES as usize) + LEVELS;
 
-// The previous word that leads nowhere.
-const NONE: u32 = 4294967295;
-
-// Questions 1 to 3 of an operation that reads nodes and levels alone: the number of the first no, or 0. Of the workers' area as many words as are needed are said to
-// be there.
+// Questions 1 to 3 of an operation that reads nodes and levels alone: the number of the first no, or 0. The workers' area is not asked for: its length is given as
+// just what question 2 wants.
 pub fn refused_reading(s: Settings, nodes: usize, levels: usize) -> u32
     ensures { λ r. ⌜ r ≡ firstNo (readingQuestions (s .width) s nodes levels) ⌝ }
 {
@@ -144,14 +143,14 @@ fn meet(s: Settings, f: Progress, r: u32, marks: &mut [u8], queue: &mut [u16]) -
     }
 }
 
-// A level's number is met.
+// A level's number is met: its reference, twice the number, need not fit a word.
 fn meet_level(s: Settings, f: Progress, g: u32, marks: &mut [u8], queue: &mut [u16]) -> Progress
     requires { ⌜ Fits s things ⌝ }
     requires { ⌜ f .count ≤ 1000000 ⌝ }
     ensures { λ x. ⌜ searched (now (marks .exit)) (now (queue .exit)) x ≡ metLevel s (searched (now (marks .entry)) (now (queue .entry)) f) g ⌝ }
     ensures { λ x. ⌜ x .count ≤ f .count + 1 ⌝ }
 {
-    if g < s.levels_taken {
+    if level_taken(s, g) {
         meet_thing(f, Settings::MAX_NODES + g, marks, queue)
     } else {
         dangle(f)
@@ -244,7 +243,7 @@ fn goes_on(f: Progress, k: usize) -> bool
     if k < f.count { f.dangling == 0 } else { false }
 }
 
-// The search from the root on, breadth first. The queue is never emptied: things before place k are expanded, those from k on wait.
+// The search from the root on, breadth first. The queue is never emptied: the things before place k are expanded, those from k on wait.
 fn explore(s: Settings, nodes: &[u32], levels: &[u32], marks: &mut [u8], queue: &mut [u16]) -> bool
     requires { ⌜ DigitWidth (s .width) ⌝ }
     requires { ⌜ Fits s things ⌝ }
@@ -271,7 +270,7 @@ fn explore(s: Settings, nodes: &[u32], levels: &[u32], marks: &mut [u8], queue: 
     f.dangling != 0
 }
 
-// Tells whether a reached reference names nothing taken; if none does, the marks tell which nodes and levels are reached. No word of the table is changed.
+// Tells whether a reached reference names nothing taken; if none does, the marks tell which nodes are reached. The marks are all 0 before.
 pub fn mark_reached(s: Settings, nodes: &[u32], levels: &[u32], marks: &mut [u8]) -> bool
     requires { ⌜ DigitWidth (s .width) ⌝ }
     requires { ⌜ Fits s things ⌝ }

@@ -1,4 +1,4 @@
--- At every moment of a sequence: what is reached is taken, questions 1 to 3 of who only reads are answered yes, and a pixel that is shown stays shown by its node.
+-- At every moment of a sequence: what is reached is taken, questions 1 to 3 of an operation that reads nodes and levels are answered yes, and a pixel that is shown stays shown by its node.
 -- Relies on demand 3 and what follows from it, and on what holds along a sequence.
 use Prim.Native.Nat.{ℕ, suc, _*_}
 use mathlib.Core.Path.{_≡_}

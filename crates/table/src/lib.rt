@@ -15,6 +15,7 @@ ghost use Rattle.rules.specs.Heads.{started};
 ghost use Rattle.rules.specs.Asked.{question5, question17};
 ghost use Rattle.rules.specs.Operations.{result, reply, opening, startQuestions, start, lastQuestions, lastAnswer, lastOf};
 ghost use Rattle.table.specs.Cut.{firstFour, afterFive, begun, startReply};
+use areas::NONE;
 use areas::fill_level;
 use record::Answer;
 use record::Head;
@@ -62,7 +63,7 @@ pub fn open(s: Settings, nodes: &[u32], levels: &mut [u32], workers: &mut [u32])
 {
     let q = s.refused_opening(nodes.len(), levels.len(), workers.len());
     if q == 0 {
-        fill_level(s.width, levels, 0, 4294967295, 0);
+        fill_level(s.width, levels, 0, NONE, 0);
         fill_words(workers, 0, word_place(s.workers, 0), 0);
         refusal(
             0,

@@ -1,5 +1,5 @@
 -- `reach::dangle` meets its contract.
--- Relies on Ways.
+-- Relies on the definition of a search's progress.
 use Rattle.reach.specs.Cut.{progressOf}
 use mathlib.Core.Path.{refl}
 use Rattle.reach.proofs.dangle.Statement.{statement}

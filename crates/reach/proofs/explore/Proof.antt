@@ -7,7 +7,8 @@ use Prim.Native.Nat.{_-_, _≤_}
 use lib.ListN.{length}
 use borrow.Author.Needs.{needs}
 use Rattle.areas.specs.Memory.{memory}
-use Rattle.reach.specs.Cut.{searched, rounds, things}
+use Rattle.reach.specs.Cut.{searched, rounds}
+use Rattle.reach.specs.Marked.{things}
 use Rattle.reach.proofs.Ways.{count-small, round-left, round-less, rounds-none, rounds-more, rounds-end}
 use Rattle.reach.proofs.explore.Statement.{statement}
 use Rattle.reach.proofs.explore.Tie as tie
