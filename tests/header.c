@@ -13,6 +13,7 @@ leafdrum_reply (*const viewing)(leafdrum_settings, uint32_t, uint32_t, uint32_t,
 leafdrum_reply (*const one_turn)(leafdrum_settings, uint32_t, AREA_TYPES) = leafdrum_turn;
 leafdrum_reply (*const list_of_turns)(leafdrum_settings, const uint8_t *, size_t, uint32_t, AREA_TYPES) = leafdrum_turns;
 leafdrum_reply (*const last_answer)(leafdrum_settings, uint32_t, AREA_TYPES) = leafdrum_last;
+leafdrum_given (*const listing_on)(leafdrum_settings, leafdrum_listing *, const uint32_t *, size_t, const uint32_t *, size_t) = leafdrum_next;
 uint32_t (*const level_count)(leafdrum_settings) = leafdrum_level_count;
 
 /* words needed for 3 workers, chain limit 2, 11 nodes at width 3: 39 levels; the arrays are for the largest table, the levels at width 6 */
@@ -25,9 +26,10 @@ static const struct { uint32_t width, level_words, last_depth; } widths[] = {{2,
 enum { WIDTHS = 4 };
 
 static int failed;
+static const char *about; /* where the same words are compared several times: when */
 static void same(const char *what, size_t is, size_t should) {
     if (is == should) return;
-    printf("header: %s is %lu, not %lu\n", what, (unsigned long)is, (unsigned long)should);
+    printf("header: %s%s%s is %lu, not %lu\n", about ? about : "", about ? ": " : "", what, (unsigned long)is, (unsigned long)should);
     failed = 1;
 }
 
@@ -50,6 +52,12 @@ static void structs(void) {
     FIELD(leafdrum_reply, exchanges_failed, 20);
     same("place of settings", offsetof(leafdrum_reply, settings), 24);
     same("size of leafdrum_reply", sizeof(leafdrum_reply), 52);
+    FIELD(leafdrum_listing, place, 0);
+    same("size of leafdrum_listing", sizeof(leafdrum_listing), 4);
+    FIELD(leafdrum_given, number, 0);
+    FIELD(leafdrum_given, answer, 4);
+    FIELD(leafdrum_given, pixel, 8);
+    same("size of leafdrum_given", sizeof(leafdrum_given), 12);
 }
 
 static leafdrum_settings wide(uint32_t crew, uint32_t limit, uint32_t count, uint32_t nodes_taken, uint32_t levels_taken, uint32_t width) {
@@ -290,6 +298,48 @@ static void answers(void) {
     same("its node", r.node, 0);
 }
 
+/* A "next" has these numbers and leaves this place. */
+static void next_is(const char *what, leafdrum_settings s, leafdrum_listing *listing, uint32_t number, uint32_t answer, uint32_t pixel, uint32_t place) {
+    leafdrum_given g = leafdrum_next(s, listing, nodes, NODE_WORDS, levels, LEVEL_WORDS);
+    about = what;
+    same("number of a next", g.number, number);
+    same("answer of a next", g.answer, answer);
+    same("pixel of a next", g.pixel, pixel);
+    same("place after a next", listing->place, place);
+    about = NULL;
+}
+
+/* A whole listing, what is placed while it goes on, and its refusals. The record stands between two words that stay. */
+static void listings(void) {
+    struct { uint32_t before; leafdrum_listing listing; uint32_t after; } lent = {5, {LEAFDRUM_LISTING_START}, 5};
+    leafdrum_listing *const listing = &lent.listing;
+    leafdrum_settings s = leafdrum_open(with(3, 2, 11, 7, 9), AREAS).settings;
+    same("LEAFDRUM_LISTING_START", LEAFDRUM_LISTING_START, 0);
+    same("LEAFDRUM_LISTING_END", LEAFDRUM_LISTING_END, 4096 * 4096 + 1);
+    next_is("an empty table", s, listing, 0, LEAFDRUM_GIVEN_END, 0, LEAFDRUM_LISTING_END);
+    s = call(s, 4095, 4095).settings;
+    next_is("after the end", s, listing, 0, 2, 0, 4096 * 4096 + 1);
+    s = call(s, 2, 3).settings;
+    listing->place = LEAFDRUM_LISTING_START;
+    next_is("the first pixel", s, listing, 0, LEAFDRUM_GIVEN_PIXEL, 2 * 4096 + 3, 2 * 4096 + 4);
+    s = call(s, 2, 2).settings; /* not above the place */
+    s = call(s, 512, 7).settings;
+    next_is("a pixel placed meanwhile", s, listing, 0, 1, 512 * 4096 + 7, 512 * 4096 + 8);
+    next_is("the greatest pixel", s, listing, 0, LEAFDRUM_GIVEN_PIXEL, 4096 * 4096 - 1, 4096 * 4096);
+    next_is("the end", s, listing, 0, LEAFDRUM_GIVEN_END, 0, LEAFDRUM_LISTING_END);
+    listing->place = LEAFDRUM_LISTING_END + 1;
+    next_is("a place above the end", s, listing, 11, LEAFDRUM_GIVEN_REFUSED, 0, LEAFDRUM_LISTING_END + 1);
+    same("next with a word less of nodes", leafdrum_next(s, listing, nodes, NODE_WORDS - 1, levels, LEVEL_WORDS).number, 2);
+    same("next with a word less of levels", leafdrum_next(s, listing, nodes, NODE_WORDS, levels, LEVEL_WORDS - 1).number, 2);
+    same("next with width 5", leafdrum_next(wide(3, 2, 11, 0, 1, 5), listing, nodes, NODE_WORDS, levels, LEVEL_WORDS).number, 1);
+    same("next with no level taken", leafdrum_next(with(3, 2, 11, 0, 0), listing, nodes, NODE_WORDS, levels, LEVEL_WORDS).number, 3);
+    listing->place = 3;
+    levels[9] = 4294967295u; /* the root's last entry */
+    next_is("a reference to nothing taken", s, listing, 6, LEAFDRUM_GIVEN_REFUSED, 0, 3);
+    same("the word before the record", lent.before, 5);
+    same("the word behind the record", lent.after, 5);
+}
+
 /* Each refusal's constant against a refusal that it names. */
 static void refusals(void) {
     leafdrum_settings s = leafdrum_open(with_viewers(1, with(3, 2, 1, 0, 0)), AREAS).settings;
@@ -306,6 +356,8 @@ static void refusals(void) {
     same("refusal of an open worker's start", leafdrum_start(s, 1, 0, 0, AREAS).number, LEAFDRUM_REFUSED_BUSY);
     workers[256] = 23; /* no kind of turn */
     same("refusal of a spoiled record", leafdrum_turn(s, 1, AREAS).number, LEAFDRUM_REFUSED_MEMORY);
+    leafdrum_listing past = {LEAFDRUM_LISTING_END + 1};
+    same("refusal of a place above the end", leafdrum_next(s, &past, nodes, NODE_WORDS, levels, LEVEL_WORDS).number, LEAFDRUM_REFUSED_PLACE);
 }
 
 int main(void) {
@@ -320,6 +372,7 @@ int main(void) {
     viewers();
     exchanges();
     answers();
+    listings();
     refusals();
     return failed;
 }

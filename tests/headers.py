@@ -29,7 +29,8 @@ SETTINGS = "    leafdrum_settings settings;\n"
 START = "leafdrum_start(leafdrum_settings settings, uint32_t worker, uint32_t row, uint32_t column, "
 VIEW = START.replace("start", "view")
 CONSTANTS = "LEAFDRUM_NONE = 0, LEAFDRUM_NEW = 1, LEAFDRUM_FOUND = 2, LEAFDRUM_FULL = 3, LEAFDRUM_OPEN = 4, LEAFDRUM_ABSENT = 5"
-REFUSALS = {"SETTINGS": 1, "AREA": 2, "COUNTS": 3, "WORKER": 4, "PIXEL": 5, "MEMORY": 6, "BUSY": 7, "IDLE": 8, "FULL": 9, "SORT": 17}
+REFUSALS = {"SETTINGS": 1, "AREA": 2, "COUNTS": 3, "WORKER": 4, "PIXEL": 5, "MEMORY": 6, "BUSY": 7, "IDLE": 8, "FULL": 9, "PLACE": 11, "SORT": 17}
+AREAS = "LEAFDRUM_AREAS uint32_t *nodes, size_t node_words, uint32_t *levels, size_t level_words, uint32_t *workers, size_t worker_words"
 LIST = "const uint8_t *list, size_t count, uint32_t limit, "
 WIDTHS = "LEAFDRUM_WIDTH_2 = 2, LEAFDRUM_WIDTH_3 = 3, LEAFDRUM_WIDTH_4 = 4, LEAFDRUM_WIDTH_6 = 6"
 RECORD = "LEAFDRUM_WORKER_WORDS 256"
@@ -38,6 +39,16 @@ COUNT = "LEAFDRUM_LEVEL_COUNT(workers, limit, nodes, width) (1 + (24 / (width) -
 OF_NODES = "LEAFDRUM_NODE_AREA(nodes) (2 * (nodes))"
 OF_LEVELS = "LEAFDRUM_LEVEL_AREA(workers, limit, nodes, width) (LEAFDRUM_LEVEL_WORDS(width) * LEAFDRUM_LEVEL_COUNT(workers, limit, nodes, width))"
 OF_WORKERS = "LEAFDRUM_WORKER_AREA(workers) (LEAFDRUM_WORKER_WORDS * (workers))"
+
+PLACE = "    uint32_t place;\n"
+GIVEN_NUMBER = "    uint32_t number; /* 0: carried out; else one of the refusals above, and the record stays as it was */\n"
+GIVEN_ANSWER = "    uint32_t answer; /* one of the three above */\n"
+GIVEN_PIXEL = "    uint32_t pixel;  /* row * 4096 + column of a pixel, else 0 */\n"
+ENDS = "LEAFDRUM_LISTING_START = 0, LEAFDRUM_LISTING_END = 16777217"
+GIVEN = "LEAFDRUM_GIVEN_REFUSED = 0, LEAFDRUM_GIVEN_PIXEL = 1, LEAFDRUM_GIVEN_END = 2"
+NEXT_LEVELS = "const uint32_t *levels, size_t level_words"
+NEXT_NODES = "const uint32_t *nodes, size_t node_words"
+NEXT = "leafdrum_next(leafdrum_settings settings, leafdrum_listing *listing, " + NEXT_NODES + ", " + NEXT_LEVELS + ")"
 
 # A wrong header: its name and its edit. Those in NAMES differ in names of parameters alone, which no program can see.
 WRONG = [
@@ -120,10 +131,10 @@ WRONG = [
 ] + [("brackets: round the whole of " + text.split("(")[0], text, re.sub(r"^(\S+\([\w, ]+\)) \((.*)\)$", r"\1 \2", text))
      for text in (LEVEL, COUNT, OF_NODES, OF_LEVELS, OF_WORKERS)] + [
     ("refusals: %s by one more" % name.lower(), "LEAFDRUM_REFUSED_%s = %d" % (name, n), "LEAFDRUM_REFUSED_%s = %d" % (name, n + 1)) for name, n in REFUSALS.items()] + [
-    ("areas: no length of the levels", "uint32_t *levels, size_t level_words", "uint32_t *levels"),
-    ("areas: length before its area", "uint32_t *nodes, size_t node_words", "size_t node_words, uint32_t *nodes"),
-    ("areas: length of 32 bits", "size_t node_words", "uint32_t node_words"),
-    ("areas: levels of 64 bits", "uint32_t *levels", "uint64_t *levels"),
+    ("areas: no length of the levels", AREAS, AREAS.replace(", size_t level_words", "")),
+    ("areas: length before its area", AREAS, AREAS.replace("uint32_t *nodes, size_t node_words", "size_t node_words, uint32_t *nodes")),
+    ("areas: length of 32 bits", AREAS, AREAS.replace("size_t node_words", "uint32_t node_words")),
+    ("areas: levels of 64 bits", AREAS, AREAS.replace("uint32_t *levels", "uint64_t *levels")),
     ("start: no column", START, START.replace("uint32_t column, ", "")),
     ("start: row and column of 16 bits", START, START.replace("uint32_t row, uint32_t column", "uint16_t row, uint16_t column")),
     ("view: no column", VIEW, VIEW.replace("uint32_t column, ", "")),
@@ -138,18 +149,59 @@ WRONG = [
     ("turns: entries of 32 bits", LIST, LIST.replace("uint8_t", "uint32_t")),
     ("last: no worker", "leafdrum_last(leafdrum_settings settings, uint32_t worker, ", "leafdrum_last(leafdrum_settings settings, "),
     ("last: gives the answer alone", "leafdrum_reply leafdrum_last", "uint32_t leafdrum_last"),
+    ("listing: place of 16 bits", PLACE, PLACE.replace("uint32_t", "uint16_t")),
+    ("listing: place of 64 bits", PLACE, PLACE.replace("uint32_t", "uint64_t")),
+    ("listing: a word before the place", PLACE, "    uint32_t more;\n" + PLACE),
+    ("listing: a word behind the place", PLACE, PLACE + "    uint32_t more;\n"),
+    ("listing: start and end exchanged", ENDS, ENDS.replace("START = 0", "START = 16777217").replace("END = 16777217", "END = 0")),
+    ("listing: start is 1", "START = 0", "START = 1"),
+    ("listing: end is the greatest pixel's place", "LISTING_END = 16777217", "LISTING_END = 16777216"),
+    ("listing: end is one more", "LISTING_END = 16777217", "LISTING_END = 16777218"),
+    ("listing: end is all bits", "LISTING_END = 16777217", "LISTING_END = -1"),
+    ("listing: no end", ", LEAFDRUM_LISTING_END = 16777217", ""),
+    ("given: refused and pixel exchanged", GIVEN, GIVEN.replace("REFUSED = 0", "REFUSED = 1").replace("PIXEL = 1", "PIXEL = 0")),
+    ("given: pixel and end exchanged", "PIXEL = 1, LEAFDRUM_GIVEN_END = 2", "PIXEL = 2, LEAFDRUM_GIVEN_END = 1"),
+    ("given: refused and end exchanged", GIVEN, GIVEN.replace("REFUSED = 0", "REFUSED = 2").replace("END = 2", "END = 0")),
+    ("given: end is 11", "GIVEN_END = 2", "GIVEN_END = 11"),
+    ("given: no end", ", LEAFDRUM_GIVEN_END = 2", ""),
+    ("given: number after answer", GIVEN_NUMBER + GIVEN_ANSWER, GIVEN_ANSWER + GIVEN_NUMBER),
+    ("given: answer after pixel", GIVEN_ANSWER + GIVEN_PIXEL, GIVEN_PIXEL + GIVEN_ANSWER),
+    ("given: number and pixel exchanged", GIVEN_NUMBER + GIVEN_ANSWER + GIVEN_PIXEL, GIVEN_PIXEL + GIVEN_ANSWER + GIVEN_NUMBER),
+    ("given: no pixel", GIVEN_PIXEL, ""),
+    ("given: no number", GIVEN_NUMBER, ""),
+    ("given: pixel of 16 bits", GIVEN_PIXEL, GIVEN_PIXEL.replace("uint32_t", "uint16_t")),
+    ("given: pixel of 64 bits", GIVEN_PIXEL, GIVEN_PIXEL.replace("uint32_t", "uint64_t")),
+    ("given: a word more", GIVEN_PIXEL, GIVEN_PIXEL + "    uint32_t more;\n"),
+    ("next: listing by value", NEXT, NEXT.replace("leafdrum_listing *listing", "leafdrum_listing listing")),
+    ("next: listing is constant", NEXT, NEXT.replace("leafdrum_listing *", "const leafdrum_listing *")),
+    ("next: the place in the listing's stead", NEXT, NEXT.replace("leafdrum_listing *", "uint32_t *")),
+    ("next: listing before the settings", NEXT, NEXT.replace("leafdrum_settings settings, leafdrum_listing *listing", "leafdrum_listing *listing, leafdrum_settings settings")),
+    ("next: settings lent", NEXT, NEXT.replace("leafdrum_settings settings", "leafdrum_settings *settings")),
+    ("next: nodes are not constant", NEXT, NEXT.replace("const uint32_t *nodes", "uint32_t *nodes")),
+    ("next: levels are not constant", NEXT, NEXT.replace("const uint32_t *levels", "uint32_t *levels")),
+    ("next: nodes of 64 bits", NEXT, NEXT.replace("uint32_t *nodes", "uint64_t *nodes")),
+    ("next: length of the nodes of 32 bits", NEXT, NEXT.replace("size_t node_words", "uint32_t node_words")),
+    ("next: length of the levels of 32 bits", NEXT, NEXT.replace("size_t level_words", "uint32_t level_words")),
+    ("next: no length of the levels", NEXT, NEXT.replace(", size_t level_words", "")),
+    ("next: no levels", NEXT, NEXT.replace(", " + NEXT_LEVELS, "")),
+    ("next: all three areas", NEXT, NEXT[:NEXT.index("const")] + "LEAFDRUM_AREAS)"),
+    ("next: gives the pixel alone", "leafdrum_given leafdrum_next", "uint32_t leafdrum_next"),
+    ("next: gives a reply", "leafdrum_given leafdrum_next", "leafdrum_reply leafdrum_next"),
+    ("next: not declared", "leafdrum_given leafdrum_next", "leafdrum_given leafdrum_list"),
     ("level_count: 16 bits", "uint32_t leafdrum_level_count", "uint16_t leafdrum_level_count"),
     ("no extern \"C\"", "extern \"C\" {", "extern \"C++\" {"),
     ("guard: its name is not defined", "#define LEAFDRUM_H\n", ""),
     ("guard: another name is defined", "#define LEAFDRUM_H\n", "#define LEAFDRUM\n"),
-    ("areas: nodes after levels", "uint32_t *nodes, size_t node_words, uint32_t *levels, size_t level_words", "uint32_t *levels, size_t level_words, uint32_t *nodes, size_t node_words"),
-    ("areas: levels after workers", "uint32_t *levels, size_t level_words, uint32_t *workers, size_t worker_words", "uint32_t *workers, size_t worker_words, uint32_t *levels, size_t level_words"),
+    ("areas: nodes after levels", AREAS, AREAS.replace("nodes, size_t node_words, uint32_t *levels, size_t level_words", "levels, size_t level_words, uint32_t *nodes, size_t node_words")),
+    ("areas: levels after workers", AREAS, AREAS.replace("levels, size_t level_words, uint32_t *workers, size_t worker_words", "workers, size_t worker_words, uint32_t *levels, size_t level_words")),
     ("start: row after column", START, START.replace("row, uint32_t column", "column, uint32_t row")),
     ("start: worker after row", START, START.replace("worker, uint32_t row", "row, uint32_t worker")),
     ("view: row after column", VIEW, VIEW.replace("row, uint32_t column", "column, uint32_t row")),
     ("view: worker after row", VIEW, VIEW.replace("worker, uint32_t row", "row, uint32_t worker")),
+    ("next: nodes after levels", NEXT, NEXT.replace(NEXT_NODES + ", " + NEXT_LEVELS, NEXT_LEVELS + ", " + NEXT_NODES)),
 ]
-NAMES = {"areas: nodes after levels", "areas: levels after workers", "start: row after column", "start: worker after row", "view: row after column", "view: worker after row"}
+NAMES = {"areas: nodes after levels", "areas: levels after workers", "start: row after column", "start: worker after row", "view: row after column", "view: worker after row",
+         "next: nodes after levels"}
 
 
 def read(path):
@@ -165,16 +217,18 @@ def write(path, text):
 
 def defined():
     """The declarations that the Rattle source asks for, and README for the names of refusals, each as C without blanks."""
-    c_name = {"Settings": "leafdrum_settings", "LeafdrumReply": "leafdrum_reply", "u32": "uint32_t", "Nothing": "NONE"}
+    c_name = {"Settings": "leafdrum_settings", "LeafdrumReply": "leafdrum_reply", "Listing": "leafdrum_listing", "LeafdrumGiven": "leafdrum_given",
+              "&mut Listing": "leafdrum_listing*", "u32": "uint32_t", "Nothing": "NONE"}
     lengths = {"list": "count", "nodes": "node_words", "levels": "level_words", "workers": "worker_words"}
     source = read("crates/export/src/lib.rt")
     found = []
 
     def parameter(name, kind):
-        slices = {"&mut [u32]": "uint32_t*%s,size_t%s", "&[u8]": "constuint8_t*%s,size_t%s"}
+        slices = {"&mut [u32]": "uint32_t*%s,size_t%s", "&[u32]": "constuint32_t*%s,size_t%s", "&[u8]": "constuint8_t*%s,size_t%s"}
         return slices[kind] % (name, lengths[name]) if kind in slices else c_name[kind] + name
 
-    for struct, text in (("Settings", read("crates/settings/src/lib.rt")), ("LeafdrumReply", source)):
+    listing = read("crates/listing/src/lib.rt")
+    for struct, text in (("Settings", read("crates/settings/src/lib.rt")), ("LeafdrumReply", source), ("Listing", listing), ("LeafdrumGiven", source)):
         body = re.search(r"pub struct %s \{(.*?)\n\}" % struct, text, re.S).group(1)
         fields = "".join("%s%s;" % (c_name[kind], name) for name, kind in re.findall(r"pub (\w+): (\w+),", body))
         found.append("typedefstruct{%s}%s;" % (fields, c_name[struct]))
@@ -184,6 +238,12 @@ def defined():
     found.append("enum{%s};" % ",".join("LEAFDRUM_%s=%s" % (c_name.get(a, a).upper(), n) for a, n in answers))
     widths = re.findall(r"pub const (WIDTH_\d+): u32 = (\d+);", read("crates/settings/src/lib.rt"))
     found.append("enum{%s};" % ",".join("LEAFDRUM_%s=%s" % width for width in widths))
+    # "0 is start" is said of the record; the end lies past all pixels
+    greatest = re.search(r"pub const MAX_PIXEL: u32 = (\d+);", read("crates/settings/src/lib.rt")).group(1)
+    past = re.search(r"const END: u32 = Settings::MAX_PIXEL \+ (\d+);", listing).group(1)
+    found.append("enum{LEAFDRUM_LISTING_START=0,LEAFDRUM_LISTING_END=%d};" % (int(greatest) + int(past)))
+    given = re.findall(r"Given::(\w+)(?:\(\w\))? => LeafdrumGiven \{[^}]*?answer: (\d),", source)
+    found.append("enum{%s};" % ",".join("LEAFDRUM_GIVEN_%s=%s" % (name.upper(), n) for name, n in given))
     # of the refusals the source has numbers alone: their names are README's
     refusals = re.findall(r"^\| (\d+) \| `(LEAFDRUM_REFUSED_\w+)` \|", read("README.md"), re.M)
     found.append("enum{%s};" % ",".join("%s=%s" % (name, n) for n, name in sorted(refusals, key=lambda r: int(r[0]))))

@@ -15,7 +15,7 @@ bad = []
 
 
 def declared(name, text):
-    return re.search(r"(?:\bfn |\bpub |\bconst |^)(?:record |data )?" + re.escape(name) + r"(?![\w-])", text, re.M)
+    return re.search(r"(?:\bfn |\bpub |\bconst |^)(?:record |data |struct |enum )?" + re.escape(name) + r"(?![\w-])", text, re.M)
 
 
 links = names = 0

@@ -1,5 +1,5 @@
 /* Demand 3 and the bound of failed exchanges on random orders of starts, turns and lists of turns at every digit width, beside viewers in half of the tables,
-   judged without a model: row [SEED [TABLES]]
+   judged without a model, and a listing beside them: row [SEED [TABLES]]
    Relies on include/leafdrum.h and the library; with -DTABLE=by_hand on bench/by_hand.c in its place. Table k has seed SEED + k: row SEED 1 runs one again. */
 #include "../include/leafdrum.h"
 #include <stdio.h>
@@ -21,6 +21,7 @@ R OF_TABLE(view)(S, uint32_t, uint32_t, uint32_t, LEAFDRUM_AREAS);
 R OF_TABLE(turn)(S, uint32_t, LEAFDRUM_AREAS);
 R OF_TABLE(turns)(S, const uint8_t *, size_t, uint32_t, LEAFDRUM_AREAS);
 R OF_TABLE(last)(S, uint32_t, LEAFDRUM_AREAS);
+leafdrum_given OF_TABLE(next)(S, leafdrum_listing *, const uint32_t *, size_t, const uint32_t *, size_t);
 uint32_t OF_TABLE(level_count)(S);
 
 /* The widths, each with its last depth, which is also how many Moves are open one inside another at most. Width 2 has the most levels, width 6 the most words. */
@@ -35,7 +36,7 @@ static size_t level_words; /* of all levels */
 /* What is asked. Where all of it holds there is document 01's row: each "new", "found" and "absent" put where it ends, each "full" where it starts. */
 enum check {
     REFUSED, SIX, REFUSAL, NEW_PIXEL, NEW_NODE, FOUND_FIRST, FOUND_NODE, FULL_EARLY, FULL_PLACED, ABSENT_PLACED, SORT, LOOKED, LOST, NOT_PLACED, PIXEL_WORD, UNTAKEN,
-    TAKEN, SPARE, LEVELS_HELD, LAST, DONE, COUNTED, BOUND, ALONE, ENDLESS, SIZES, CHECKS
+    TAKEN, SPARE, LEVELS_HELD, LAST, DONE, COUNTED, BOUND, ALONE, ENDLESS, SIZES, LIST_REFUSED, LIST_END, LIST_MISSES, LIST_GIVES, LIST_RISES, CHECKS
 };
 static const char *const names[CHECKS] = {
     [REFUSED] = "refused without a reason",
@@ -64,6 +65,11 @@ static const char *const names[CHECKS] = {
     [ALONE] = "exchange of a worker alone failed",
     [ENDLESS] = "call alone without end",
     [SIZES] = "levels not counted by the width",
+    [LIST_REFUSED] = "listing refused",
+    [LIST_END] = "listing not at its end",
+    [LIST_MISSES] = "listing ended before a pixel",
+    [LIST_GIVES] = "listing gave another pixel",
+    [LIST_RISES] = "listing did not rise",
 };
 static uint64_t seed;
 static uint32_t operation, tables_with[CHECKS];
@@ -95,6 +101,47 @@ static uint32_t deepest[WIDTHS]; /* the most Moves that were open one inside ano
 static uint32_t placing(void) { return s.workers - s.viewers; }
 static int views(uint32_t i) { return i >= placing(); }
 
+/* A listing that goes on beside the calls. "Pixels that could be reached when the listing began come exactly once, rising. A pixel placed meanwhile comes if it lies
+   above the place when it is placed, and otherwise doesn't": `due` are those that have to come, by their place in the book. */
+static leafdrum_listing listing;
+static uint8_t due[PIXELS];
+static unsigned long listings, listed;
+
+static void begin_listing(void) {
+    listing.place = LEAFDRUM_LISTING_START;
+    for (uint32_t k = 0; k < pixels; k++) due[k] = book[k].placed != 0;
+}
+
+/* A "next"; whether it gave a pixel. */
+static int next_listed(void) {
+    uint32_t before = listing.place, k = 0;
+    listings += before == LEAFDRUM_LISTING_START;
+    leafdrum_given g = OF_TABLE(next)(s, &listing, nodes, 2 * s.nodes, levels, level_words);
+    must(g.number == 0, LIST_REFUSED);
+    if (g.answer != LEAFDRUM_GIVEN_PIXEL) {
+        must(g.answer == LEAFDRUM_GIVEN_END && listing.place == LEAFDRUM_LISTING_END, LIST_END);
+        for (; k < pixels; k++) must(!due[k], LIST_MISSES);
+        return 0;
+    }
+    must(g.pixel >= before, LIST_RISES);
+    while (k < pixels && book[k].pixel != g.pixel) k++;
+    must(k < pixels && due[k], LIST_GIVES);
+    if (!broken) due[k] = 0, listed++;
+    return !broken;
+}
+
+/* Now and then a "next", after the end some more; at the table's end all of them, then a whole listing. */
+static void list_on(void) {
+    if (!next_listed() && !broken && operation % 3 == 0) begin_listing();
+}
+static void list_whole(void) {
+    for (int k = 0; k < 2 && !broken; k++) {
+        while (next_listed()) {}
+        if (!broken) next_listed();
+        begin_listing();
+    }
+}
+
 static void ends(uint32_t i, uint32_t answer, uint32_t node) {
     uint32_t k = calls[i].place;
     must(answer == LEAFDRUM_FOUND || (answer == LEAFDRUM_ABSENT) == views(i), SORT);
@@ -105,6 +152,7 @@ static void ends(uint32_t i, uint32_t answer, uint32_t node) {
         must(node < s.nodes_taken && !holds[node], NEW_NODE);
         if (broken) return;
         book[k].placed = operation, book[k].node = node, holds[node] = k + 1, nodes_placed++;
+        due[k] = book[k].pixel >= listing.place; /* the place is that of a pixel below it */
     } else if (answer == LEAFDRUM_FOUND) {
         must(book[k].placed != 0, FOUND_FIRST);
         must(book[k].node == node, FOUND_NODE);
@@ -393,6 +441,7 @@ static void open_table(void) {
     memset(calls, 0, sizeof calls);
     in_table.done = in_table.failed = 0;
     nodes_placed = 0, broken = 0, operation = 0;
+    begin_listing();
     uint32_t count = 1 + widths[wide].last * (s.nodes / s.limit) + s.workers;
     must(OF_TABLE(level_count)(s) == count, SIZES);
     level_words = (2 + entries()) * (size_t)count;
@@ -465,9 +514,11 @@ static void run(void) {
         if (!broken) compare();
         if (between && workers[RECORD * i + W_KIND] == SETLOOK && !broken) come_between(i);
         if (operation % 16 == 0 && !broken) last_answers();
+        if (operation % 16 == 8 && !broken) list_on();
     }
     ask_again();
     if (small()) fill();
+    if (s.nodes <= 400 && !broken) list_whole();
 }
 
 int main(int count, char **word) {
@@ -487,10 +538,10 @@ int main(int count, char **word) {
            lists_done, ended[LEAFDRUM_NEW], ended[LEAFDRUM_FOUND], ended[LEAFDRUM_FULL], ended[LEAFDRUM_ABSENT], compared);
     printf("exchanges %lu done, %lu failed, the bound reached %lu times; Moves one inside another", in_all.done, in_all.failed, bound_reached);
     for (int k = 0; k < WIDTHS; k++) printf("%s %u at width %u", k ? "," : "", deepest[k], widths[k].width);
-    puts("");
+    printf("; %lu listings beside the calls gave %lu pixels\n", listings, listed);
     /* what the tests' own run never reaches was not tested */
-    if (count == 1 && (!ended[LEAFDRUM_FULL] || !ended[LEAFDRUM_ABSENT] || !lists_done || !bound_reached))
-        return puts("row: a full call, an absent one, a list or the bound was never reached"), 1;
+    if (count == 1 && (!ended[LEAFDRUM_FULL] || !ended[LEAFDRUM_ABSENT] || !lists_done || !bound_reached || !listed))
+        return puts("row: a full call, an absent one, a list, the bound or a listed pixel was never reached"), 1;
     for (int k = 0; k < WIDTHS; k++)
         if (count == 1 && deepest[k] != widths[k].last) return printf("row: as many Moves as there can be were not reached at width %u\n", widths[k].width), 1;
     return 0;

@@ -1,6 +1,6 @@
 #!/usr/bin/env python3
-"""Wrong versions of bench/by_hand.c, document 01's four shortcuts first, then numbers of another digit width, viewers last: tests/row.c must find each, by the
-checks named with it; the file as it is must pass.
+"""Wrong versions of bench/by_hand.c, document 01's four shortcuts first, then numbers of another digit width, viewers, listings last: tests/row.c must find each,
+by the checks named with it; the file as it is must pass.
 Relies on tests/row.c, whose lines it reads, and on gcc. python3 tests/shortcuts.py [SEED]"""
 import os
 import re
@@ -43,6 +43,11 @@ PIXEL_ASKED = "    if (row > 4095 || column > 4095) return reply(5, 0, 0, s);\n"
 BUSY = "    if (w[W_KIND] != IDLE) return reply(7, 0, 0, s);\n"
 AT_ITS_KINDS = " || (views && !(VIEWS >> k & 1))"
 LISTED = "        if (q == 8) continue;\n"
+# and with listings
+HANGING = "        if (t < NODES || w[-2] == 4294967295u) continue;\n"
+FOLLOWED = "            if (!seen[i]) seen[i] = 1, queue[tail++] = i;\n        }\n"
+LEAST = "        if (seen[i] && nodes[2 * i] >= listing->place && nodes[2 * i] < best) best = nodes[2 * i];\n"
+MOVED_ON = "    listing->place = best + 1;\n"
 
 
 def failing(kind, what):
@@ -209,6 +214,15 @@ VERSIONS = [
     ("a list passes over viewers", ["DONE"], [(LISTED, LISTED.replace("q == 8", "q == 8 || views"))]),
     ("a list ends with an absent", ["DONE"], [(LISTED, LISTED + "        if (answer == 5) { done++; break; }\n")]),
     ("an absent counts as a failed exchange", ["COUNTED"], [(COUNTS, COUNTS + "        if (answer == 5) exchanges++, failures++;\n")]),
+    ("a listing follows no previous word", ["LIST_MISSES"], [(HANGING, "        if (w) continue;\n")]),
+    ("a listing leaves out each last entry", ["LIST_MISSES"], [("1 : d.words - 2;", "1 : d.words - 3;")]),
+    ("a listing refuses a reference met before", ["LIST_REFUSED"], [(FOLLOWED, FOLLOWED.replace("        }", "            else if (i != t) return (leafdrum_given){6, 0, 0};\n        }"))]),
+    ("a listing gives spare nodes", ["LIST_GIVES"], [(LEAST, LEAST.replace("seen[i] && ", ""))]),
+    ("a listing gives the first pixel found", ["LIST_MISSES"], [(LEAST, LEAST.replace("nodes[2 * i] < best", "best > MAXPIX"))]),
+    ("a listing passes over the pixel behind its last", ["LIST_MISSES"], [(LEAST, LEAST.replace(">=", ">"))]),
+    ("a listing begins with each next", ["LIST_RISES"], [(LEAST, LEAST.replace("nodes[2 * i] >= listing->place && ", ""))]),
+    ("a listing gives its last pixel again", ["LIST_GIVES"], [(MOVED_ON, "    listing->place = best > MAXPIX ? LEAFDRUM_LISTING_END : best;\n")]),
+    ("a listing begins anew at its end", ["LIST_END"], [(MOVED_ON, "    listing->place = best > MAXPIX ? 0 : best + 1;\n")]),
 ]
 
 

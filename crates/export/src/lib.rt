@@ -247,6 +247,7 @@ pub struct GivenAt {
     pub place: u32,
 }
 
+// What a "next" gives, in numbers.
 fn given_numbers(a: Given) -> LeafdrumGiven
     ensures { λ r. ⌜ r ≡ givenNumbers a ⌝ }
 {

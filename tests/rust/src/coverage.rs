@@ -1,5 +1,6 @@
 // What all sequences together reached, at each digit width. What they had to reach and did not fails the test.
 use crate::bound::{BoundSeen, EXCHANGES};
+use crate::listing::Listings;
 use crate::model::{last_depth, Areas, Kind, Kind::*, Seen, Settings, KINDS, LISTS, WIDTHS};
 use crate::mutants::Chosen;
 use crate::pair::{Numbers, Pair, NUMBER_COUNT, OPERATIONS};
@@ -15,6 +16,7 @@ pub struct Total {
     pub turns: u64,
     // the wrong version that the model of every further sequence has
     pub mutant: Option<Chosen>,
+    pub listings: Listings,
     reached: [Reached; PLACES],
 }
 
@@ -124,6 +126,7 @@ impl Total {
             bad.push(format!("{} turns without a width", none.seen.turns()));
         }
         println!("{} turns compared", self.turns);
+        bad.extend(self.listings.report());
         bad
     }
 }

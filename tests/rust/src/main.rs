@@ -1,17 +1,22 @@
-// Compares the table with a model coded apart, at each digit width and after every operation: reply, settings and every word of the areas; and what the text
-// program prints with a text program coded apart. What was never reached fails.
+// Compares the table with a model coded apart, at each digit width and after every operation: reply, settings and every word of the areas; each "next" of listings
+// with a model of it; and what the text program prints with a text program coded apart. What was never reached fails.
 //   leafdrum_tests [SEED [TURNS]]                                   everything
 //   leafdrum_tests mutants [SEED]                                   the wrong versions of the model alone
+//   leafdrum_tests listings [SEED]                                  the listings and their wrong versions alone
 //   leafdrum_tests orders|large|spoiled|six|cut|struck SEED WIDTH   one random sequence again, as a difference names it
+//   leafdrum_tests listed|next SEED WIDTH                           one random sequence with listings, or memory, again
 //   leafdrum_tests program [SEED [TEXTS]]                           the text program alone
 //   leafdrum_tests text SEED                                        one random text again, as a difference names it
 mod bound;
 mod coverage;
 mod examples;
 mod exchanges;
+mod listing;
+mod listing_mutants;
 mod lists;
 mod model;
 mod mutants;
+mod next;
 mod pair;
 mod program;
 mod random;
@@ -45,6 +50,7 @@ fn everything(seed: u64, turns: u64) -> Compared<Vec<String>> {
         lists::all(width, seed, &mut total)?;
         refusals::all(width, seed, &mut total)?;
         viewers::all(width, seed, &mut total)?;
+        listing::all(width, seed, &mut total)?;
         sequences::written(width, &mut total)?;
         sequences::reopened(width, seed, &mut total)?;
     }
@@ -66,7 +72,17 @@ fn everything(seed: u64, turns: u64) -> Compared<Vec<String>> {
     }
     missing.extend(total.report());
     missing.extend(mutants::missed(seed));
+    missing.extend(listing_mutants::missed(seed));
     missing.extend(program::all(seed, TEXTS)?);
+    Ok(missing)
+}
+
+// the listings alone, with their wrong versions
+fn listings(seed: u64) -> Compared<Vec<String>> {
+    let mut total = Total::default();
+    WIDTHS.into_iter().try_for_each(|width| listing::all(width, seed, &mut total))?;
+    let mut missing = total.listings.report();
+    missing.extend(listing_mutants::missed(seed));
     Ok(missing)
 }
 
@@ -88,6 +104,9 @@ fn main() {
         Some("six") => one(six::one_width, number(2, 3), number(1, SEED)),
         Some("program") => program::all(number(1, SEED), number(2, TEXTS)),
         Some("text") => program::one(number(1, SEED)),
+        Some("listings") => listings(number(1, SEED)),
+        Some("listed") => one(listing::listed, number(2, 3), number(1, SEED)),
+        Some("next") => one(listing::spoiled, number(2, 3), number(1, SEED)),
         Some("spoiled") => one(sequences::spoiled, number(2, 3), number(1, SEED)),
         _ => {
             println!("seed {}", number(0, SEED));

@@ -205,7 +205,7 @@ pub enum Ref {
     Node(u32),
 }
 
-fn reference(word: u32) -> Ref {
+pub fn reference(word: u32) -> Ref {
     if word & 1 == 1 {
         Ref::Node(word >> 1)
     } else {

@@ -1,6 +1,7 @@
 // Sequences of operations at a digit width, random ones from a seed of their own: `leafdrum_tests NAME SEED WIDTH` runs one again.
 use crate::bound;
 use crate::coverage::{place, Total};
+use crate::listing::at_some_places;
 use crate::model::{self, Areas, Kind, Settings, KINDS, NONE, WIDTHS};
 use crate::pair::{Compared, Op, Pair};
 use crate::random::Random;
@@ -128,6 +129,7 @@ fn any_order(r: &mut Random, total: &mut Total, s: Settings, spread: u64, steps:
         }
     }
     too_many_viewers(r, total, &p)?;
+    at_some_places(&mut p, &mut total.listings)?;
     total.add(&p);
     Ok(())
 }
@@ -285,6 +287,7 @@ pub fn spoiled(width: u32, seed: u64, total: &mut Total) -> Compared<()> {
                 spoil(r, &mut p);
             }
         }
+        at_some_places(&mut p, &mut total.listings)?;
         for _ in 0..r.below(12) {
             let i = r.below(s.workers as u64) as u32;
             match r.below(7) {

@@ -1,6 +1,7 @@
 // The table under test: the static library's functions, as include/leafdrum.h declares them. Nothing checks these declarations against the Rattle
 // source.
 use crate::model::{Areas, Exchanges, Reply, Settings};
+use crate::next::Given;
 use crate::pair::Op;
 
 #[repr(C)]
@@ -27,6 +28,19 @@ struct CReply {
     settings: CSettings,
 }
 
+#[repr(C)]
+struct CListing {
+    place: u32,
+}
+
+#[repr(C)]
+#[derive(Clone, Copy)]
+struct CGiven {
+    number: u32,
+    answer: u32,
+    pixel: u32,
+}
+
 extern "C" {
     fn leafdrum_open(s: CSettings, n: *mut u32, nl: usize, l: *mut u32, ll: usize, w: *mut u32, wl: usize) -> CReply;
     fn leafdrum_start(s: CSettings, i: u32, row: u32, column: u32, n: *mut u32, nl: usize, l: *mut u32, ll: usize, w: *mut u32, wl: usize) -> CReply;
@@ -45,6 +59,7 @@ extern "C" {
         wl: usize,
     ) -> CReply;
     fn leafdrum_last(s: CSettings, i: u32, n: *mut u32, nl: usize, l: *mut u32, ll: usize, w: *mut u32, wl: usize) -> CReply;
+    fn leafdrum_next(s: CSettings, listing: *mut CListing, n: *const u32, nl: usize, l: *const u32, ll: usize) -> CGiven;
     fn leafdrum_level_count(s: CSettings) -> u32;
 }
 
@@ -91,6 +106,14 @@ impl Table {
                 Op::Last(i) => leafdrum_last(s, *i, n, nl, l, ll, w, wl),
             }
         })
+    }
+
+    // A "next" of a listing with this place: what it gives, and the place after it. It may not write the areas; they are lent so that it could.
+    pub fn next(&mut self, place: u32) -> (Given, u32) {
+        let (mut listing, a) = (CListing { place }, &mut self.areas);
+        let (n, l) = (a.nodes.as_mut_ptr(), a.levels.as_mut_ptr());
+        let g = unsafe { leafdrum_next(to_c(&self.settings), &mut listing, n, a.nodes.len(), l, a.levels.len()) };
+        (Given { number: g.number, answer: g.answer, pixel: g.pixel }, listing.place)
     }
 }
 
