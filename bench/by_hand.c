@@ -384,7 +384,7 @@ R HAND(turns)(S s, const uint8_t *list, size_t count, uint32_t limit, LEAFDRUM_A
     return r;
 }
 
-/* A "next": the same search from the root on, breadth first, then the least pixel that the place leaves. */
+/* A "next": the same search from the root on, breadth first, then the least pixel that is not below the place. */
 leafdrum_given HAND(next)(S s, leafdrum_listing *listing, const uint32_t *nodes, size_t node_words, const uint32_t *levels, size_t level_words) {
     D d;
     uint32_t q = counts(&s, &d, node_words, level_words, RECORD * (size_t)s.workers);

@@ -1,5 +1,5 @@
-/* Microseconds of one "next" of the proved table and of by_hand.c, over the same memory in one run, as a ratio: on full tables that calls have left, and on memory that
-   none can leave, in which every level is taken and reached. Run by hand: sh bench/run.sh
+/* Microseconds of one "next" of the proved table and of by_hand.c, over the same memory in one run, as a ratio: on full tables that calls have left, and on hostile memory
+   that none can leave, in which all levels are taken and nearly all are reached. Run by hand: sh bench/run.sh
    Relies on leafdrum.h. Both must give the same, else it stops. */
 #define _POSIX_C_SOURCE 199309L
 #include "../include/leafdrum.h"
@@ -27,19 +27,26 @@ static double now(void) {
     return t.tv_sec * 1e9 + t.tv_nsec;
 }
 
-/* a full table: pixels far apart, or in pairs that share all digits but the last, which takes as many levels as calls can */
-static S full(int pairs, uint32_t limit, uint32_t width) {
+static S call(S s, uint32_t row, uint32_t column) {
+    leafdrum_reply r = leafdrum_start(s, 0, row, column, AREAS);
+    while (r.answer == LEAFDRUM_OPEN) r = leafdrum_turn(r.settings, 0, AREAS);
+    return r.settings;
+}
+
+/* a full table: pixels far apart, or in pairs that share all digits but the last, or one in each row and then a call for its neighbour, which ends "full" after it has
+   moved the chain down to the last level: as many levels as calls can make. Rows come in any order, as defects do */
+enum load { APART, PAIRS, NEIGHBOURS };
+static S full(enum load load, uint32_t limit, uint32_t width) {
     S s = leafdrum_open((S){.workers = 1, .limit = limit, .nodes = NODES, .width = width}, AREAS).settings;
     for (uint32_t k = 0; k < NODES; k++) {
-        uint32_t p = pairs ? ((k >> 1) * 2654435761u & 0x7fffff) << 1 | (k & 1) : k * 2654435761u & 0xffffff;
-        leafdrum_reply r = leafdrum_start(s, 0, p >> 12, p & 4095, AREAS);
-        while (r.answer == LEAFDRUM_OPEN) r = leafdrum_turn(r.settings, 0, AREAS);
-        s = r.settings;
+        uint32_t p = load == APART ? k * 2654435761u & 0xffffff : load == PAIRS ? ((k >> 1) * 2654435761u & 0x7fffff) << 1 | (k & 1) : (k * 1597 & 4095) << 12;
+        s = call(s, p >> 12, p & 4095);
     }
+    for (uint32_t k = 0; load == NEIGHBOURS && k < NODES; k++) s = call(s, k * 2531 & 4095, 1);
     return s;
 }
 
-/* every level is taken and reached: by previous words or by entries one after the other, by previous words in any order, by references of all kinds */
+/* all levels are taken, and reached by previous words or by entries one after the other, by previous words in any order, by references of all kinds */
 enum shape { BY_PREVIOUS, BY_ENTRIES, SHUFFLED, RANDOM };
 static S hostile(enum shape shape, uint32_t width) {
     static uint32_t order[LEVELS];
@@ -88,16 +95,17 @@ int main(void) {
     static const uint32_t widths[] = {LEAFDRUM_WIDTH_2, LEAFDRUM_WIDTH_3, LEAFDRUM_WIDTH_4, LEAFDRUM_WIDTH_6};
     static const char *shapes[] = {"hostile: chain by previous words", "hostile: chain by entries", "hostile: shuffled ring", "hostile: random references"};
     printf("one next                      width  levels |    proved  by hand  ratio |  ns a reference   (microseconds, least of 300)\n");
-    row("full, pixels far apart, limit 8", full(0, 8, LEAFDRUM_WIDTH_3));
-    row("full, pixels far apart, limit 4", full(0, 4, LEAFDRUM_WIDTH_3));
-    row("full, pixels far apart, limit 1", full(0, 1, LEAFDRUM_WIDTH_3));
+    row("full, pixels far apart, limit 8", full(APART, 8, LEAFDRUM_WIDTH_3));
+    row("full, pixels far apart, limit 4", full(APART, 4, LEAFDRUM_WIDTH_3));
+    row("full, pixels far apart, limit 1", full(APART, 1, LEAFDRUM_WIDTH_3));
     for (int k = 0; k < 4; k++) {
-        double most = row("full, pixels in pairs, limit 1", full(1, 1, widths[k])), worst = 0;
+        row("full, pixels in pairs, limit 1", full(PAIRS, 1, widths[k]));
+        double most = row("full, with calls that ended full", full(NEIGHBOURS, 1, widths[k])), worst = 0;
         for (int h = BY_PREVIOUS; h <= RANDOM; h++) {
             double t = row(shapes[h], hostile(h, widths[k]));
             if (t > worst) worst = t;
         }
-        printf("width %u: the worst hostile memory takes %.1f times the full table's time\n", widths[k], worst / most);
+        printf("width %u: the worst hostile memory takes %.2f times the time of the full table with the most levels\n", widths[k], worst / most);
     }
     return 0;
 }

@@ -84,11 +84,12 @@ typedef struct {
     uint32_t pixel;  /* row * 4096 + column of a pixel, else 0 */
 } leafdrum_given;
 
-/* The smallest reachable pixel above the listing's place, or "end". It is called between two turns, amid any calls, and no turn may run while it does. Pixels that could
-   be reached when the listing began come exactly once, rising; one that is placed meanwhile comes if it lies above the place then, and else not; after the end nothing
-   comes. Only nodes and levels are read, and no word of them is changed. Hand in the newest settings: with older ones a reference to a node taken since gives 6. The
-   record must not lie in an area. Over memory of any content: 6 exactly if a reference reached from the root names nothing taken, at the end too. Refusals 1, 2 (of
-   these two areas), 3, 11 (the place is more than LEAFDRUM_LISTING_END), 6. It searches the whole table each time; built for x86-64 it uses less stack than this: */
+/* The smallest reachable pixel above the listing's place, or "end". It is called between two turns, amid any calls, and no turn may run while it does. While these
+   functions alone change the areas, and this one alone the record: pixels that could be reached when the listing began come exactly once, rising; one that is placed
+   meanwhile comes if it lies above the place then, and else not; after the end nothing comes. Only nodes and levels are read, and no word of them is changed. Hand in
+   the newest settings: with older ones a reference to a node taken since gives 6. The record must not lie in an area. Over memory of any content: 6 exactly if a
+   reference reached from the root names nothing taken, at the end too. Refusals 1, 2 (of these two areas), 3, 11 (the place is more than LEAFDRUM_LISTING_END), 6. It
+   searches the whole table each time; built for x86-64 it uses less stack than this: */
 #define LEAFDRUM_NEXT_STACK 150000 /* bytes */
 leafdrum_given leafdrum_next(leafdrum_settings settings, leafdrum_listing *listing, const uint32_t *nodes, size_t node_words, const uint32_t *levels, size_t level_words);
 

@@ -157,7 +157,6 @@ class Watched(Table):
 
     def __init__(self, layout, *sizes, viewers=0):
         self.moments, self.turned, self.worker_words = [], set(), layout.worker_words
-        self.called, self.placed = {}, set()  # each worker's pixel; what a listing gives
         super().__init__(*sizes, layout.width, viewers=viewers)
         self.entries = range(2 ** layout.width)
         for i in range(self.settings.workers):
@@ -174,8 +173,6 @@ class Watched(Table):
     def ask(self, name, *given):
         before = list(self.areas[2])
         refused_by = super().ask(name, *given)
-        if name in ("start", "view"):
-            self.called[given[0]] = 4096 * given[1] + given[2]
         if name == "turn":
             self.turned |= {at - self.worker_words * given[0] for at, word in enumerate(self.areas[2]) if word != before[at]}
         return refused_by
@@ -206,9 +203,6 @@ class Watched(Table):
     def ends(self, i, answer, node):
         if (ANSWERS[self.reply.answer], self.reply.node) != (answer, node):
             sys.exit("layout: %s, %d answered where %s, %d is due" % (ANSWERS[self.reply.answer], self.reply.node, answer, node))
-        self.placed |= {self.called[i]} if answer == "new" else set()
-        if self.listing() != sorted(self.placed):
-            sys.exit("layout: a listing gives %s where %s are placed" % (self.listing(), sorted(self.placed)))
         self.sees(("worker", i, "kind", "idle"), ("worker", i, "answer", answer), ("worker", i, "answer's node", node))
 
     def call(self, i, pixel, kinds, answer, node):

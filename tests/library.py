@@ -17,14 +17,6 @@ class Reply(ctypes.Structure):
     _fields_ = [(name, Word) for name in ("number", "answer", "node", "turns", "exchanges_done", "exchanges_failed")] + [("settings", Settings)]
 
 
-class Listing(ctypes.Structure):
-    _fields_ = [("place", Word)]
-
-
-class Given(ctypes.Structure):
-    _fields_ = [(name, Word) for name in ("number", "answer", "pixel")]
-
-
 def read(path):
     with open(os.path.join(ROOT, path), encoding="utf-8") as f:
         return f.read()
@@ -37,7 +29,6 @@ def loaded():
     lib = ctypes.CDLL(path)
     for name in ("open", "start", "view", "turn", "last"):
         getattr(lib, "leafdrum_" + name).restype = Reply
-    lib.leafdrum_next.restype = Given
     lib.leafdrum_level_count.restype = Word
     return lib
 
@@ -59,21 +50,9 @@ class Table:
         self.areas = [(Word * n)(*[77] * n) for n in lengths]
         self.opened = self.ask("open")
 
-    def lent(self, count=3):
-        """The first areas, each with its length."""
-        return [x for area in self.areas[:count] for x in (area, ctypes.c_size_t(len(area)))]
-
-    def listing(self):
-        """The pixels that a whole listing gives, or the number that refuses it."""
-        record, pixels = Listing(0), []
-        while True:
-            given = LIB.leafdrum_next(self.settings, ctypes.byref(record), *self.lent(2))
-            if given.answer != 1:
-                return given.number or pixels
-            pixels.append(given.pixel)
-
     def ask(self, name, *given):
-        self.reply = getattr(LIB, "leafdrum_" + name)(self.settings, *map(Word, given), *self.lent())
+        lent = [x for area in self.areas for x in (area, ctypes.c_size_t(len(area)))]
+        self.reply = getattr(LIB, "leafdrum_" + name)(self.settings, *map(Word, given), *lent)
         if self.reply.number in (0, 9):
             self.settings = self.reply.settings
         return self.reply.number

@@ -33,12 +33,11 @@ static size_t used(uint32_t answer) {
     return given.answer == answer ? sizeof stack - untouched : 0;
 }
 
-/* a full table of this width, whose chains have moved */
+/* a full table of this width: a pixel in each row, and calls for their neighbours, which moved the chains before they ended "full" */
 static void fill(uint32_t width) {
     leafdrum_reply r = leafdrum_open((leafdrum_settings){.workers = WORKERS, .limit = LIMIT, .nodes = NODES, .width = width}, AREAS);
-    for (uint32_t k = 0; k < NODES; k++) {
-        uint32_t p = (k >> 1) * 2654435761u << 1 & 0xfffffe;
-        r = leafdrum_start(r.settings, 0, p >> 12, (p & 4095) | (k & 1), AREAS);
+    for (uint32_t k = 0; k < 2 * NODES; k++) {
+        r = leafdrum_start(r.settings, 0, k % NODES, k / NODES, AREAS);
         while (r.answer == LEAFDRUM_OPEN) r = leafdrum_turn(r.settings, 0, AREAS);
     }
     settings = r.settings;
@@ -66,8 +65,7 @@ int main(void) {
         bytes[1] = used(LEAFDRUM_GIVEN_PIXEL);
         nodes[1] = 4294967295u;
         bytes[2] = used(LEAFDRUM_GIVEN_REFUSED);
-        printf("stack.c: width %u: a next uses %zu bytes of stack, %zu on hostile memory, %zu where it is refused; the header says %d\n", widths[k], bytes[0], bytes[1], bytes[2],
-               LEAFDRUM_NEXT_STACK);
+        printf("stack.c: width %u: a next uses %zu bytes of stack, %zu on hostile memory, %zu where it is refused\n", widths[k], bytes[0], bytes[1], bytes[2]);
         for (int j = 0; j < 3; j++) wrong |= bytes[j] > LEAFDRUM_NEXT_STACK || bytes[j] < LEAFDRUM_NEXT_STACK / 4 * 3;
     }
     return wrong;

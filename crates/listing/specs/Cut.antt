@@ -1,5 +1,5 @@
 -- The least pixel of the marked nodes, as the code finds it. A reader need not believe it: Least ties it to what is reached.
--- Relies on areas for the words.
+-- Relies on areas for the words, on reach for a reference that names nothing taken, on Next for the smallest pixel.
 use Prim.Native.Nat.{ℕ, zero, suc, _+_, _≤_, _<_}
 use mathlib.Core.Path.{_≡_}
 use mathlib.Core.Bool.{true, false}

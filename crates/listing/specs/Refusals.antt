@@ -30,7 +30,7 @@ pub record RefusesNext (w : ℕ) (s : Settings) (m : Memory) (place : ℕ) (r : 
   -- excludes: a "next" that does not search at "end"; one that stops at the first pixel and misses a reference after it
   pub six : Iff (numberOf (r .given) ≡ 6) (AllYes (questionsOf w s m) × (place ≤ endPlace) × Dangling w s m)
   -- a refusal has its number
-  -- excludes: a "next" that refuses and tells no number; one that refuses by 0 where all is well
+  -- excludes: a "next" that refuses by 0 in place of "end"; one that refuses by 0 in place of a pixel
   pub numbered : (n : ℕ) → r .given ≡ Refused n → n ≢ 0
   -- excludes: a "next" that goes back to "start" when it is refused; one that goes to "end"
   pub unchanged : numberOf (r .given) ≢ 0 → r .place ≡ place

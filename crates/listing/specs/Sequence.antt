@@ -91,11 +91,11 @@ pub record ListingMeets (w : ℕ) (x : State) (k : ℕ) (steps : List Step) : Ty
       (before : List Step) (m : Moved) (rest : List Step) → steps ≡ before ++ next k m ∷ rest
       → ((p : ℕ) → m .given ≡ Pixel p → m .place ≡ p + 1) × (m .given ≡ End → m .place ≡ endPlace)
   -- "pixels that could be reached when the listing began come exactly once": it is at "start", and comes to its "end"
-  -- excludes: a walk by entries alone, which leaves out a node that hangs by a previous word amid a Move; a "next" that gives the pixel of its place again
+  -- excludes: a walk by entries alone, which leaves out a node that hangs by a previous word amid a Move; a "next" that gives the first pixel found instead of the smallest
   pub once :
       (before rest : List Step) → steps ≡ before ++ rest → placeOf k before ≡ 0 → Ends k steps → (p : ℕ) → Shows w (stateAt w x before) p → times k p steps ≡ 1
   -- "rising"
-  -- excludes: a "next" that gives the first pixel found instead of the smallest; one that begins anew after a pixel is placed
+  -- excludes: a "next" that gives the smallest of all pixels whatever its place; one that begins anew after a pixel is placed
   pub rising :
       (before : List Step) (m : Moved) (between : List Step) (m′ : Moved) (rest : List Step) → steps ≡ before ++ next k m ∷ between ++ next k m′ ∷ rest
       → (p q : ℕ) → m .given ≡ Pixel p → m′ .given ≡ Pixel q → p < q

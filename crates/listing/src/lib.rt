@@ -79,7 +79,7 @@ fn least_of(nodes: &[u32], marks: &[u8], place: u32, n: u32) -> u32
     least
 }
 
-// The search, and the least reachable pixel that a place leaves.
+// The search, and the least reachable pixel that is not below the place.
 fn seen_from(s: Settings, nodes: &[u32], levels: &[u32], place: u32) -> Seen
     requires { ⌜ DigitWidth (s .width) ⌝ }
     requires { ⌜ Fits s things ⌝ }

@@ -100,7 +100,7 @@ fn dangle(f: Progress) -> Progress
     }
 }
 
-// A thing is discovered.
+// A thing is discovered. The bounds on the count here and below are loose: they keep sums within a number's range, and leave room for a level's entries.
 fn discover(f: Progress, t: u32, marks: &mut [u8], queue: &mut [u16]) -> Progress
     requires { ⌜ t < things ⌝ }
     requires { ⌜ f .count ≤ 1000000 ⌝ }

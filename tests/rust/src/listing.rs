@@ -95,15 +95,15 @@ impl Listings {
             return Ok(want);
         }
         let got = m.table.next(place);
+        // a refusal gives its number and nothing else
+        if got.0.number != 0 && got != (refused(got.0.number), place) || (got.0.number == 0) == (got.0.answer == REFUSED) {
+            return Err(m.difference(format!("place {place}: {got:?}")));
+        }
         if got != want {
             return Err(m.difference(format!("place {place}: the table gives {got:?}, the model {want:?}, {:?}", m.model.s)));
         }
         if m.table.areas != *m.model.a {
             return Err(m.difference(format!("place {place}: a word has changed")));
-        }
-        // a refusal gives its number and nothing else
-        if got.0.number != 0 && got != (refused(got.0.number), place) || (got.0.number == 0) == (got.0.answer == REFUSED) {
-            return Err(m.difference(format!("place {place}: {got:?}")));
         }
         self.met_by(m, place, got.0);
         Ok(got)
@@ -725,6 +725,7 @@ fn between(p: &mut Pair, open: &mut [Open], going: &[bool], listings: &mut Listi
     let viewed = records(KIND).zip(0..).any(|(kind, i)| kind != 0 && s.views(i));
     let mut m = Beside { table: &mut p.table, model: next::Model::new(listings.rules, s, a), what: &p.what };
     let (level, pixel) = by_previous(s, a, m.model.reached());
+    let begins = open.last().is_some_and(|x| x.place == START);
     for (what, holds) in [
         ("listings", true),
         ("listings begun amid a Move", moving),
@@ -732,9 +733,9 @@ fn between(p: &mut Pair, open: &mut [Open], going: &[bool], listings: &mut Listi
         ("listings begun while a pixel hangs by a previous word alone", pixel),
         ("listings begun beside a viewer's call", viewed),
     ] {
-        listings.count(s.width, what, holds as u64);
+        listings.count(s.width, what, (begins && holds) as u64);
     }
-    let (whole, others) = open.split_last_mut().expect("a listing that begins here");
+    let (whole, others) = open.split_last_mut().expect("a listing that goes to its end here");
     for x in others.iter_mut().zip(going).filter(|x| *x.1).map(|x| x.0) {
         one_next(x, &mut m, listings)?;
         listings.count(s.width, "nexts amid a Move", moving as u64);
