@@ -1,11 +1,10 @@
 /* Nanoseconds a turn of the proved table and of by_hand.c, the same sequences through both in one run, as a ratio. Run by hand: sh bench/run.sh
    Both must leave the same words after each pass, else it stops. */
-#define _POSIX_C_SOURCE 199309L
+#include "common.h"
 #include "../include/leafdrum.h"
 #include <stdio.h>
 #include <stdlib.h>
 #include <string.h>
-#include <time.h>
 
 typedef leafdrum_settings S;
 typedef leafdrum_reply R;
@@ -30,17 +29,6 @@ enum { WORKERS = 16, NODES = 4096 };
 static uint32_t nodes[LEAFDRUM_NODE_AREA(NODES)], levels[LEAFDRUM_LEVEL_AREA(WORKERS, 1, NODES, LEAFDRUM_WIDTH_6)], workers[LEAFDRUM_WORKER_AREA(WORKERS)];
 /* the areas of n nodes and a crew, with lw words of levels */
 #define AREAS nodes, LEAFDRUM_NODE_AREA(n), levels, lw, workers, LEAFDRUM_WORKER_AREA(crew)
-
-static uint64_t seed;
-static uint32_t draw(uint32_t n) {
-    seed = seed * 6364136223846793005u + 1442695040888963407u;
-    return (uint32_t)((seed >> 33) % n);
-}
-static double now(void) {
-    struct timespec t;
-    clock_gettime(CLOCK_MONOTONIC, &t);
-    return t.tv_sec * 1e9 + t.tv_nsec;
-}
 
 /* in VIEWS worker 0 places and the others are viewers that look pixels up, half of which are there on the whole */
 enum load { FOUND, INSERT, MOVES, VIEWS };

@@ -1,11 +1,10 @@
 /* Microseconds of one "next" of the proved table and of by_hand.c, over the same memory in one run, as a ratio: on full tables that calls have left, and on hostile memory
    that none can leave, in which all levels are taken and nearly all are reached. Run by hand: sh bench/run.sh
    Relies on leafdrum.h. Both must give the same, else it stops. */
-#define _POSIX_C_SOURCE 199309L
+#include "common.h"
 #include "../include/leafdrum.h"
 #include <stdio.h>
 #include <stdlib.h>
-#include <time.h>
 
 typedef leafdrum_settings S;
 leafdrum_given by_hand_next(S, leafdrum_listing *, const uint32_t *, size_t, const uint32_t *, size_t);
@@ -16,17 +15,6 @@ static uint32_t nodes[LEAFDRUM_NODE_AREA(NODES)], levels[LEAFDRUM_LEVEL_AREA(WOR
 #define READ nodes, sizeof nodes / 4, levels, sizeof levels / 4
 #define AREAS READ, workers, sizeof workers / 4
 
-static uint64_t seed = 12345;
-static uint32_t draw(uint32_t n) {
-    seed = seed * 6364136223846793005u + 1442695040888963407u;
-    return (uint32_t)((seed >> 33) % n);
-}
-static double now(void) {
-    struct timespec t;
-    clock_gettime(CLOCK_MONOTONIC, &t);
-    return t.tv_sec * 1e9 + t.tv_nsec;
-}
-
 static S call(S s, uint32_t row, uint32_t column) {
     leafdrum_reply r = leafdrum_start(s, 0, row, column, AREAS);
     while (r.answer == LEAFDRUM_OPEN) r = leafdrum_turn(r.settings, 0, AREAS);
@@ -34,15 +22,16 @@ static S call(S s, uint32_t row, uint32_t column) {
 }
 
 /* a full table: pixels far apart, or in pairs that share all digits but the last, or one in each row and then a call for its neighbour, which ends "full" after it has
-   moved the chain down to the last level: as many levels as calls can make. Rows come in any order, as defects do */
-enum load { APART, PAIRS, NEIGHBOURS };
+   moved the chain down to the last level: as many levels as calls can make. With rows in rising order levels stand in memory nearly as the search meets them, with
+   scattered rows they don't */
+enum load { APART, PAIRS, RISING, SCATTERED };
 static S full(enum load load, uint32_t limit, uint32_t width) {
     S s = leafdrum_open((S){.workers = 1, .limit = limit, .nodes = NODES, .width = width}, AREAS).settings;
     for (uint32_t k = 0; k < NODES; k++) {
-        uint32_t p = load == APART ? k * 2654435761u & 0xffffff : load == PAIRS ? ((k >> 1) * 2654435761u & 0x7fffff) << 1 | (k & 1) : (k * 1597 & 4095) << 12;
+        uint32_t p = load == APART ? k * 2654435761u & 0xffffff : load == PAIRS ? ((k >> 1) * 2654435761u & 0x7fffff) << 1 | (k & 1) : (load == RISING ? k : k * 1597 & 4095) << 12;
         s = call(s, p >> 12, p & 4095);
     }
-    for (uint32_t k = 0; load == NEIGHBOURS && k < NODES; k++) s = call(s, k * 2531 & 4095, 1);
+    for (uint32_t k = 0; load >= RISING && k < NODES; k++) s = call(s, load == RISING ? k : k * 2531 & 4095, 1);
     return s;
 }
 
@@ -100,12 +89,13 @@ int main(void) {
     row("full, pixels far apart, limit 1", full(APART, 1, LEAFDRUM_WIDTH_3));
     for (int k = 0; k < 4; k++) {
         row("full, pixels in pairs, limit 1", full(PAIRS, 1, widths[k]));
-        double most = row("full, with calls that ended full", full(NEIGHBOURS, 1, widths[k])), worst = 0;
+        double rising = row("full, most levels, rows rising", full(RISING, 1, widths[k])), scattered = row("full, most levels, rows scattered", full(SCATTERED, 1, widths[k])), worst = 0;
         for (int h = BY_PREVIOUS; h <= RANDOM; h++) {
             double t = row(shapes[h], hostile(h, widths[k]));
             if (t > worst) worst = t;
         }
-        printf("width %u: the worst hostile memory takes %.2f times the time of the full table with the most levels\n", widths[k], worst / most);
+        printf("width %u: the worst hostile memory takes %.2f times the time of the full table with the most levels and rising rows, %.2f times with scattered ones\n", widths[k],
+               worst / rising, worst / scattered);
     }
     return 0;
 }
