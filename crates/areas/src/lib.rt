@@ -1,5 +1,8 @@
 // The words of nodes and levels: total reads and writes by number, references, and cells.
 // Relies on words for reads and writes, on settings for sizes.
+
+#![tactic(auto)]
+
 ghost use Rattle.std.specs.Prelude.{◌≡◌, ◌+◌, ◌*◌, ◌≤◌, eqb, set};
 ghost use Rattle.words.specs.Digits.{DigitWidth};
 ghost use Rattle.settings.specs.Sizes.{level_words, max_nodes, most_levels};
@@ -12,7 +15,7 @@ use words::{at, digit, fill_words, lt, put};
 pub const NONE: u32 = 4294967295;
 
 // A cell: an entry of a level (level, entry), or the next word of a node.
-#[derive(Drop)]
+#[derive(Clone, Copy)]
 pub enum Cell {
     Entry(u32, u32),
     Next(u32),

@@ -1,5 +1,8 @@
 // The flagged count: the number of nodes that can be reached from the root, over memory of any content.
 // Relies on reach for the search and for questions 1 to 3.
+
+#![tactic(auto)]
+
 ghost use Rattle.std.specs.Prelude.{◌≡◌, ◌+◌, ◌≤◌};
 ghost use Rattle.words.specs.Choice.{first_no};
 ghost use Rattle.settings.specs.Sizes.{max_nodes};
@@ -13,7 +16,7 @@ use settings::Settings;
 
 // What a count gives: the number of the refusal or 0, and the flagged count, else 0.
 #[repr(C)]
-#[derive(Drop)]
+#[derive(Clone, Copy)]
 pub struct Count {
     pub number: u32,
     pub count: u32,

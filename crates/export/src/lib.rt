@@ -1,5 +1,8 @@
 // The C interface: the public operations with their answers as numbers. include/leafdrum.h declares it; tests/headers.py compares the two.
 // Relies on table for the operations, on lists for the parts of a turn and of a list of turns, on turns for a viewer's turn, on listing for a "next", on counting for the flagged count.
+
+#![tactic(auto)]
+
 ghost use Rattle.std.specs.Prelude.{◌≡◌, true, false, ◌-◌};
 ghost use Rattle.areas.specs.Memory.{areas, memory};
 ghost use Rattle.record.specs.Kinds.{answer_no, answer_node};
@@ -19,7 +22,7 @@ use settings::Settings;
 
 // leafdrum_reply: the number of the refusal or 0, the answer and its node; of a list the turns done, and its exchanges done and failed; the settings.
 #[repr(C)]
-#[derive(Drop)]
+#[derive(Clone, Copy)]
 pub struct LeafdrumReply {
     pub number: u32,
     pub answer: u32,
@@ -234,7 +237,7 @@ pub extern "C" fn leafdrum_last(
 
 // leafdrum_given: the number of the refusal or 0; 0 where it is refused, 1 for a pixel, 2 for "end"; the pixel, else 0.
 #[repr(C)]
-#[derive(Drop)]
+#[derive(Clone, Copy)]
 pub struct LeafdrumGiven {
     pub number: u32,
     pub answer: u32,
@@ -242,7 +245,7 @@ pub struct LeafdrumGiven {
 }
 
 // The same with the place after it.
-#[derive(Drop)]
+#[derive(Clone, Copy)]
 pub struct GivenAt {
     pub given: LeafdrumGiven,
     pub place: u32,

@@ -1,5 +1,8 @@
 // The text program: reads standard input, and writes what the run over it prints.
 // Relies on run for what is printed, on printing for its bytes, on io for reading and writing.
+
+#![tactic(auto)]
+
 ghost use Rattle.std.specs.Prelude.{◌≡◌, take};
 ghost use Rattle.areas.specs.Memory.{areas};
 ghost use Rattle.printing.specs.Printing.{bytes_of};

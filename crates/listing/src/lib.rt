@@ -1,5 +1,8 @@
 // Listing the flagged pixels while calls are open, over memory of any content: one "next" by value.
 // Relies on reach for the search and for questions 1 to 3.
+
+#![tactic(auto)]
+
 ghost use Rattle.std.specs.Prelude.{◌≡◌};
 ghost use Rattle.words.specs.Digits.{DigitWidth};
 ghost use Rattle.areas.specs.Memory.{memory};
@@ -14,7 +17,7 @@ use words::{and, le, lt};
 
 // "The listing keeps its place in a small record that each "next" moves on": 0 is "start", pixel + 1 after a pixel, END at the "end".
 #[repr(C)]
-#[derive(Drop)]
+#[derive(Clone, Copy)]
 pub struct Listing {
     pub place: u32,
 }
@@ -23,7 +26,7 @@ pub struct Listing {
 const END: u32 = Settings::MAX_PIXEL + 2;
 
 // What a "next" gives.
-#[derive(Drop)]
+#[derive(Clone, Copy)]
 pub enum Given {
     Refused(u32),
     Pixel(u32),
@@ -31,14 +34,14 @@ pub enum Given {
 }
 
 // The same with the place after it.
-#[derive(Drop)]
+#[derive(Clone, Copy)]
 pub struct Moved {
     pub given: Given,
     pub place: u32,
 }
 
 // What a search tells of a place: whether a reached reference names nothing taken, and the least pixel, or a number past all pixels.
-#[derive(Drop)]
+#[derive(Clone, Copy)]
 pub struct Seen {
     pub dangling: bool,
     pub pixel: u32,

@@ -1,5 +1,8 @@
 // The parts of a list of turns with a limit and of one turn, of which the C interface is made; one turn as a public operation, for the text program.
 // Relies on turns for the turn of a worker, on settings and table for the questions that are asked before.
+
+#![tactic(auto)]
+
 ghost use Rattle.std.specs.Prelude.{◌≡◌, true, false, ◌∷◌, ◌+◌, ◌-◌, ◌≤◌, ◌<◌, ltb, length};
 ghost use Rattle.words.specs.Choice.{every, first_no};
 ghost use Rattle.settings.specs.Sizes.{views};
@@ -19,7 +22,7 @@ use words::{and, le, lt};
 
 // Where a list of turns stands: 0 or 6, nodes taken, levels taken, the turns that may still be done, and the exchanges done and failed. A turn changes no
 // other setting.
-#[derive(Drop)]
+#[derive(Clone, Copy)]
 pub struct Tally {
     pub number: u32,
     pub nodes_taken: u32,
@@ -30,7 +33,7 @@ pub struct Tally {
 }
 
 // What a turn tells beside the settings: its number and its answer.
-#[derive(Drop)]
+#[derive(Clone, Copy)]
 pub struct Told {
     pub number: u32,
     pub answer: Answer,
@@ -38,7 +41,7 @@ pub struct Told {
 
 // The tally after a 6: nothing else has changed.
 fn ended_six(t: Tally) -> Tally
-    ensures* { λ u. ⌜ u ≡ six_tally t ⌝ }
+    ensures { result ≡ six_tally t }
 {
     Tally {
         number: 6,
@@ -52,7 +55,7 @@ fn ended_six(t: Tally) -> Tally
 
 // An entry whose worker is idle, by the number of its last answer: it is skipped, or its record does not fit.
 fn idle_entry(v: bool, t: Tally, answer: u32) -> Tally
-    ensures* { λ u. ⌜ u ≡ idle_tally v t answer ⌝ }
+    ensures { result ≡ idle_tally v t answer }
 {
     if idle_fits(v, answer) {
         t
@@ -64,7 +67,7 @@ fn idle_entry(v: bool, t: Tally, answer: u32) -> Tally
 // The tally after a turn that was done, with the exchanges counted.
 fn next_tally(t: Tally, d: Done, done: u32, failed: u32) -> Tally
     requires { 1 ≤ t.left }
-    ensures* { λ u. ⌜ u ≡ next_tally t d done failed ⌝ }
+    ensures { result ≡ next_tally t d done failed }
 {
     Tally {
         number: 0,
@@ -80,7 +83,7 @@ fn next_tally(t: Tally, d: Done, done: u32, failed: u32) -> Tally
 fn tallied(t: Tally, d: Done) -> Tally
     requires le_left { 1 ≤ t.left }
     requires left_bound { t.done + t.failed + t.left ≤ 4294967295 }
-    ensures* { λ u. ⌜ u ≡ open_tally t d ⌝ }
+    ensures { result ≡ open_tally t d }
 {
     if d.number == 6 {
         ended_six(t)
@@ -110,7 +113,7 @@ fn open_entry(
     requires i_lt_workers { i < s.workers }
     requires bound { 1 ≤ kind_no (head_at workers.old i).kind }
     requires i_value { views s i ≡ false }
-    ensures* { λ u. ⌜ ran_of s u (areas nodes.new levels.new workers.new) ≡ ran_entry s.width (ran_of s t (areas nodes.old levels.old workers.old)) i ⌝ }
+    ensures { ran_of s result (areas nodes.new levels.new workers.new) ≡ ran_entry s.width (ran_of s t (areas nodes.old levels.old workers.old)) i }
 {
     let n = s.with_counts(t.nodes_taken, t.levels_taken);
     let d = open_here(n, i, nodes, levels, workers);
@@ -120,7 +123,7 @@ fn open_entry(
 // Worker i is a viewer, of settings in range: Settings::views without its test that the viewers are at most the workers.
 fn views_of(s: Settings, i: u32) -> bool
     requires { s.viewers ≤ s.workers }
-    ensures* { λ r. ⌜ r ≡ views s i ⌝ }
+    ensures { result ≡ views s i }
 {
     le(s.workers - s.viewers, i)
 }
@@ -139,7 +142,7 @@ fn entry(
     requires number_value { t.number ≡ 0 }
     requires workers_value { first_three s.width (counted_by s t) (length nodes.old) (length levels.old) (length workers.old) ≡ 0 }
     requires i_lt_workers { i < s.workers }
-    ensures* { λ u. ⌜ ran_of s u (areas nodes.new levels.new workers.new) ≡ ran_entry s.width (ran_of s t (areas nodes.old levels.old workers.old)) i ⌝ }
+    ensures { ran_of s result (areas nodes.new levels.new workers.new) ≡ ran_entry s.width (ran_of s t (areas nodes.old levels.old workers.old)) i }
 {
     if idle_at(workers, i) {
         idle_entry(views_of(s, i), t, answer_at(workers, i))
@@ -156,14 +159,14 @@ fn entry(
 
 // A byte as a number of 32 bits.
 pub fn wide(x: u8) -> u32
-    ensures* { λ r. ⌜ r ≡ x ⌝ }
+    ensures { result ≡ x }
 {
     x as u32
 }
 
 // Every entry of a list is below n: question 4 of a list of turns.
 fn all_below(list: &[u8], n: u32) -> bool
-    ensures* { λ r. ⌜ r ≡ every (λ i. ltb i n) list.now ⌝ }
+    ensures { result ≡ every (λ i. ltb i n) list.now }
 {
     let mut ok = true;
     let mut k = 0;
@@ -187,7 +190,7 @@ pub fn run_list(
 ) -> Tally
     requires workers_value { first_three s.width s (length nodes.old) (length levels.old) (length workers.old) ≡ 0 }
     requires rest_value { every (λ i. ltb i s.workers) (first ∷ rest.now) ≡ true }
-    ensures* { λ u. ⌜ ran_of s u (areas nodes.new levels.new workers.new) ≡ ran_list s.width (first ∷ rest.now) (run 0 (state s (areas nodes.old levels.old workers.old)) limit 0 0) ⌝ }
+    ensures { ran_of s result (areas nodes.new levels.new workers.new) ≡ ran_list s.width (first ∷ rest.now) (run 0 (state s (areas nodes.old levels.old workers.old)) limit 0 0) }
 {
     let mut t = Tally {
         number: 0,
@@ -217,14 +220,14 @@ pub fn run_list(
 
 // One number less another, and 0 where the other is greater.
 fn less(n: u32, k: u32) -> u32
-    ensures* { λ r. ⌜ r ≡ n - k ⌝ }
+    ensures { result ≡ n - k }
 {
     if k <= n { n - k } else { 0 }
 }
 
 // Questions 1 to 4 of a list of turns: the number of the first no, or 0.
 pub fn refused_list(s: Settings, list: &[u8], nodes: &[u32], levels: &[u32], workers: &[u32]) -> u32
-    ensures* { λ r. ⌜ r ≡ first_no (list_questions s.width s list.now (areas nodes.now levels.now workers.now)) ⌝ }
+    ensures { result ≡ first_no (list_questions s.width s list.now (areas nodes.now levels.now workers.now)) }
 {
     let q = s.refused(nodes.len(), levels.len(), workers.len());
     if q == 0 {
@@ -236,7 +239,7 @@ pub fn refused_list(s: Settings, list: &[u8], nodes: &[u32], levels: &[u32], wor
 
 // What a list of turns gives at its end, with its settings then: the turns done are those that the limit has been counted down by.
 pub fn ended_list(s: Settings, t: Tally, limit: u32) -> Reply
-    ensures* { λ r. ⌜ r ≡ reply t.number Answer.Nothing (limit - t.left) s ⌝ }
+    ensures { result ≡ reply t.number Answer.Nothing (limit - t.left) s }
 {
     Reply {
         number: t.number,
@@ -248,7 +251,7 @@ pub fn ended_list(s: Settings, t: Tally, limit: u32) -> Reply
 
 // The number of a turn that was done, as its worker's head tells it: 9 where the call has ended "full".
 fn number_told(h: Head) -> u32
-    ensures* { λ r. ⌜ r ≡ number_by h ⌝ }
+    ensures { result ≡ number_by h }
 {
     if is_idle(h) {
         if h.answer == 3 { 9 } else { 0 }
@@ -259,7 +262,7 @@ fn number_told(h: Head) -> u32
 
 // What a turn of worker i that was done tells, from its record after it.
 pub fn turn_told(workers: &[u32], i: u32) -> Told
-    ensures* { λ d. ⌜ d ≡ told_by (head_at workers.now i) ⌝ }
+    ensures { result ≡ told_by (head_at workers.now i) }
 {
     let h = Head::load(workers, i);
     Told {
@@ -270,14 +273,14 @@ pub fn turn_told(workers: &[u32], i: u32) -> Told
 
 // A turn of an idle worker is refused, by the number of its last answer; v says whether the worker is a viewer.
 fn idle_number(v: bool, answer: u32) -> u32
-    ensures* { λ r. ⌜ r ≡ idle_number v answer ⌝ }
+    ensures { result ≡ idle_number v answer }
 {
     if idle_fits(v, answer) { 8 } else { 6 }
 }
 
 // The number that refuses a turn of worker i before its record is asked further, or 0: questions 1 to 4, and 8 or 6 of an idle worker.
 pub fn refused_turn(s: Settings, i: u32, nodes: &[u32], levels: &[u32], workers: &[u32]) -> u32
-    ensures* { λ r. ⌜ r ≡ refused_turn s.width s i (areas nodes.now levels.now workers.now) ⌝ }
+    ensures { result ≡ refused_turn s.width s i (areas nodes.now levels.now workers.now) }
 {
     let q = refused_worker(s, i, nodes, levels, workers);
     if q == 0 {
@@ -300,7 +303,7 @@ fn open_turn(
     workers: &mut [u32],
 ) -> Reply
     requires { refused_turn s.width s i (areas nodes.old levels.old workers.old) ≡ 0 }
-    ensures* { λ r. ⌜ result_of r (areas nodes.new levels.new workers.new) ≡ turn s.width s i (areas nodes.old levels.old workers.old) ⌝ }
+    ensures { result_of result (areas nodes.new levels.new workers.new) ≡ turn s.width s i (areas nodes.old levels.old workers.old) }
 {
     // no entry but this worker
     let none = [0u8];
@@ -322,7 +325,7 @@ pub fn turn(
     levels: &mut [u32],
     workers: &mut [u32],
 ) -> Reply
-    ensures* { λ r. ⌜ result_of r (areas nodes.new levels.new workers.new) ≡ turn s.width s i (areas nodes.old levels.old workers.old) ⌝ }
+    ensures { result_of result (areas nodes.new levels.new workers.new) ≡ turn s.width s i (areas nodes.old levels.old workers.old) }
 {
     let q = refused_turn(s, i, nodes, levels, workers);
     if q == 0 {

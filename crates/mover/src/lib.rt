@@ -1,5 +1,8 @@
 // A moving worker by value: its head, of its innermost Move what a turn needs, the last node of the Move around that; a method for each moving kind.
 // Relies on steps for what searching and moving do alike, on rules for the definitions.
+
+#![tactic(auto)]
+
 ghost use Rattle.std.specs.Prelude.{false, ◌≡◌, ◌∷◌, ◌+◌, ◌*◌, ◌-◌, ◌≤◌, length, get_or};
 ghost use Rattle.words.specs.Choice.{both};
 ghost use Rattle.words.specs.Digits.{DigitWidth};
@@ -28,7 +31,7 @@ use steps::{
 use words::{and, at, copy_in, le, put};
 
 // Of a Move: the level whose chain moves, the level that it moves to, how many nodes it remembers, and the last of them.
-#[derive(Drop)]
+#[derive(Clone, Copy)]
 pub struct Inner {
     pub home: u32,
     pub child: u32,
@@ -37,7 +40,7 @@ pub struct Inner {
 }
 
 // The head, the number of Moves, the innermost of them, and the last node of the Move around it (0: none).
-#[derive(Drop)]
+#[derive(Clone, Copy)]
 pub struct Mover {
     pub head: Head,
     pub moves: u32,
@@ -47,7 +50,7 @@ pub struct Mover {
 
 // What a moving turn gives: its number (0 or 6), answer, settings, and the advanced mover. One Move more: the innermost is the new one.
 // One less: the innermost has ended.
-#[derive(Drop)]
+#[derive(Clone, Copy)]
 pub struct Moved {
     pub number: u32,
     pub answer: Answer,

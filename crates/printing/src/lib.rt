@@ -1,11 +1,14 @@
 // What the program prints: a header, rows of ended calls, refusals and the end line, as bytes.
 // Relies on text for the bytes that part fields and lines. Nothing here knows the table.
+
+#![tactic(auto)]
+
 ghost use Rattle.std.specs.Prelude.{◌≡◌, [], ◌∷◌, ◌++◌, ◌+◌, ◌%◌, ◌≤◌, length, take, drop};
 ghost use Rattle.text.specs.Parts.{comma, line_end};
 ghost use Rattle.printing.specs.Printing.{decimal, call_bytes, bytes_of};
 
 // What is printed at once. New and Found: worker, pixel, node. Full and Absent: worker, pixel. Refused: line, number. End: nodes taken, levels taken.
-#[derive(Drop)]
+#[derive(Clone, Copy)]
 pub enum Printed {
     Nothing,
     Header,

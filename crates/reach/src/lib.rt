@@ -1,5 +1,8 @@
 // The search for everything that is reached from the root, over memory of any content.
 // Relies on areas for the words and on settings for sizes.
+
+#![tactic(auto)]
+
 ghost use Rattle.std.specs.Prelude.{◌≡◌, ◌+◌, ◌≤◌, ◌<◌, get_or, set, replicate};
 ghost use Rattle.words.specs.Choice.{first_no};
 ghost use Rattle.words.specs.Digits.{DigitWidth, base};
@@ -33,7 +36,7 @@ pub fn refused_reading(s: Settings, nodes: usize, levels: usize) -> u32
 
 // How far a search is: how many things were discovered, and 1 once a reference named nothing taken, else 0. Numbers of 64 bits, since two of 32 would be packed
 // into one register and taken apart at each reference.
-#[derive(Drop)]
+#[derive(Clone, Copy)]
 pub struct Progress {
     pub count: usize,
     pub dangling: usize,

@@ -1,5 +1,8 @@
 // A worker's record: kinds of turn and answers with their numbers, and the head and the Moves in the worker's words.
 // Relies on words for blocks, on settings for sizes and the chain limit.
+
+#![tactic(auto)]
+
 ghost use Rattle.std.specs.Prelude.{◌≡◌, false, ◌+◌, ◌*◌, ◌≤◌, leb, eqb, length};
 ghost use Rattle.words.specs.Choice.{every};
 ghost use Rattle.settings.specs.Sizes.{max_limit, worker_words, within};
@@ -12,7 +15,7 @@ use settings::{Settings, last_depth, within};
 use words::{and, at, copy_in, copy_out, eq, le};
 
 // The kinds of turn. Idle: no call is open. Unknown: a number that is no kind.
-#[derive(Drop)]
+#[derive(Clone, Copy)]
 pub enum Kind {
     Idle,
     Look,
@@ -41,7 +44,7 @@ pub enum Kind {
 }
 
 // What an operation answers. Nothing: document 01's "none". Open: a call is open or goes on. Absent: a viewer's pixel is not placed.
-#[derive(Drop)]
+#[derive(Clone, Copy)]
 pub enum Answer {
     Nothing,
     New(u32),
@@ -52,7 +55,7 @@ pub enum Answer {
 }
 
 // What a turn's exchange came to. None: the turn makes no exchange.
-#[derive(Drop)]
+#[derive(Clone, Copy)]
 pub enum Exchange {
     None,
     Done,
@@ -60,7 +63,7 @@ pub enum Exchange {
 }
 
 // What an operation gives back. The number is 0 where it was carried out, else that of the refusal.
-#[derive(Drop)]
+#[derive(Clone, Copy)]
 pub struct Reply {
     pub number: u32,
     pub answer: Answer,
@@ -69,7 +72,7 @@ pub struct Reply {
 }
 
 // The numbers of a call. A held node or level is its number + 1, or 0: in hand in Put, Append, Close and SetClose, else spare.
-#[derive(Drop)]
+#[derive(Clone, Copy)]
 pub struct Head {
     pub kind: Kind,
     pub pixel: u32,
@@ -83,7 +86,7 @@ pub struct Head {
 }
 
 // A Move of the chain of an entry of `home` to `child`: the nodes remembered are the first `count`.
-#[derive(Drop)]
+#[derive(Clone, Copy)]
 pub struct Move {
     pub home: u32,
     pub child: u32,

@@ -1,5 +1,8 @@
 // The run of the text program: one line carried out, and what is to be printed next.
 // Relies on text for lines, on table and lists for the operations, on printing for what is printed.
+
+#![tactic(auto)]
+
 ghost use Rattle.std.specs.Prelude.{◌≡◌, true, List, ℕ, ◌+◌, ◌≤◌, eqb, leb, length, drop};
 ghost use Rattle.words.specs.Choice.{pick};
 ghost use Rattle.areas.specs.Memory.{Areas, areas};
@@ -17,7 +20,7 @@ use table::{open, refusal, start};
 use text::{Command, command_of, has, up_to};
 
 // How far a run is: nothing is printed yet; the input is too long; the first line is to be read; the later lines; the end line is to be printed; all is printed.
-#[derive(Drop)]
+#[derive(Clone, Copy)]
 pub enum Stage {
     Begin,
     TooLong,
@@ -28,7 +31,7 @@ pub enum Stage {
 }
 
 // The stage, the number of the next line, the place of its first byte, and the table's settings.
-#[derive(Drop)]
+#[derive(Clone, Copy)]
 pub struct Progress {
     pub stage: Stage,
     pub line: u32,
@@ -37,14 +40,14 @@ pub struct Progress {
 }
 
 // What is printed next, and where the run stands then.
-#[derive(Drop)]
+#[derive(Clone, Copy)]
 pub struct Told {
     pub printed: Printed,
     pub progress: Progress,
 }
 
 // What a line prints, and the settings that it leaves.
-#[derive(Drop)]
+#[derive(Clone, Copy)]
 pub struct Said {
     pub printed: Printed,
     pub settings: Settings,
@@ -52,7 +55,7 @@ pub struct Said {
 
 // What a start prints as line n.
 fn start_prints(n: u32, number: u32) -> Printed
-    ensures* { λ r. ⌜ r ≡ pick (eqb number 0) Printed.Nothing (Printed.Refused n number) ⌝ }
+    ensures { result ≡ pick (eqb number 0) Printed.Nothing (Printed.Refused n number) }
 {
     if number == 0 {
         Printed::Nothing
@@ -73,7 +76,7 @@ fn start_line(
     levels: &[u32],
     workers: &mut [u32],
 ) -> Said
-    ensures* { λ r. ⌜ line r.printed (state r.settings (areas nodes.now levels.now workers.new)) ≡ start_line n (start s.width s looks i row column (areas nodes.now levels.now workers.old)) ⌝ }
+    ensures { line result.printed (state result.settings (areas nodes.now levels.now workers.new)) ≡ start_line n (start s.width s looks i row column (areas nodes.now levels.now workers.old)) }
 {
     let r = start(s, looks, i, row, column, nodes, levels, workers);
     let s2 = r.settings;
@@ -85,7 +88,7 @@ fn start_line(
 
 // What a turn of worker i prints as line n. Document 01: "full .. prints no refused line".
 fn turn_prints(n: u32, i: u32, pixel: u32, number: u32, a: Answer) -> Printed
-    ensures* { λ r. ⌜ r ≡ turn_prints n i pixel number a ⌝ }
+    ensures { result ≡ turn_prints n i pixel number a }
 {
     match a {
         Answer::Nothing => Printed::Refused(n, number),
@@ -106,7 +109,7 @@ fn turn_line(
     levels: &mut [u32],
     workers: &mut [u32],
 ) -> Said
-    ensures* { λ r. ⌜ line r.printed (state r.settings (areas nodes.new levels.new workers.new)) ≡ turn_line n i (head_at workers.old i).pixel (turn s.width s i (areas nodes.old levels.old workers.old)) ⌝ }
+    ensures { line result.printed (state result.settings (areas nodes.new levels.new workers.new)) ≡ turn_line n i (head_at workers.old i).pixel (turn s.width s i (areas nodes.old levels.old workers.old)) }
 {
     let h = Head::load(workers, i);
     let r = turn(s, i, nodes, levels, workers);
@@ -127,7 +130,7 @@ pub fn carry(
     levels: &mut [u32],
     workers: &mut [u32],
 ) -> Said
-    ensures* { λ r. ⌜ line r.printed (state r.settings (areas nodes.new levels.new workers.new)) ≡ carried n c (state s (areas nodes.old levels.old workers.old)) ⌝ }
+    ensures { line result.printed (state result.settings (areas nodes.new levels.new workers.new)) ≡ carried n c (state s (areas nodes.old levels.old workers.old)) }
 {
     match c {
         Command::Starts(i, row, column) => start_line(
@@ -146,7 +149,7 @@ pub fn carry(
 
 // The first line with its sizes. The program lends memory for 128 nodes.
 fn open_sizes(s: Settings, nodes: &[u32], levels: &mut [u32], workers: &mut [u32]) -> Reply
-    ensures* { λ r. ⌜ result_of r (areas nodes.now levels.new workers.new) ≡ pick (leb s.nodes 128) (opening s.width s (areas nodes.now levels.old workers.old)) (refused 1 s (areas nodes.now levels.old workers.old)) ⌝ }
+    ensures { result_of result (areas nodes.now levels.new workers.new) ≡ pick (leb s.nodes 128) (opening s.width s (areas nodes.now levels.old workers.old)) (refused 1 s (areas nodes.now levels.old workers.old)) }
 {
     if s.nodes <= 128 {
         open(s, nodes, levels, workers)
@@ -157,7 +160,7 @@ fn open_sizes(s: Settings, nodes: &[u32], levels: &mut [u32], workers: &mut [u32
 
 // The first line as the command that it reads as: an opening, or its refusal.
 pub fn open_first(c: Command, nodes: &[u32], levels: &mut [u32], workers: &mut [u32]) -> Reply
-    ensures* { λ r. ⌜ result_of r (areas nodes.now levels.new workers.new) ≡ first_line c (areas nodes.now levels.old workers.old) ⌝ }
+    ensures { result_of result (areas nodes.now levels.new workers.new) ≡ first_line c (areas nodes.now levels.old workers.old) }
 {
     match c {
         Command::Sizes(count, limit, most, viewers) => open_sizes(
@@ -172,7 +175,7 @@ pub fn open_first(c: Command, nodes: &[u32], levels: &mut [u32], workers: &mut [
 
 // A run before anything is printed.
 pub fn begin() -> Progress
-    ensures* { λ r. ⌜ r ≡ begun ⌝ }
+    ensures { result ≡ begun }
 {
     Progress {
         stage: Stage::Begin,
@@ -184,7 +187,7 @@ pub fn begin() -> Progress
 
 // Whether something is still to be printed.
 pub fn goes_on(p: Progress) -> bool
-    ensures* { λ r. ⌜ r ≡ goes_on p.stage ⌝ }
+    ensures { result ≡ goes_on p.stage }
 {
     let g = p.stage;
     match g {
@@ -195,7 +198,7 @@ pub fn goes_on(p: Progress) -> bool
 
 // A thing to print, and the same run at another stage.
 fn tell(x: Printed, g: Stage, p: Progress) -> Told
-    ensures* { λ r. ⌜ r ≡ told x (progress g p.line p.at p.settings) ⌝ }
+    ensures { result ≡ told x (progress g p.line p.at p.settings) }
 {
     let s = p.settings;
     Told {
@@ -212,7 +215,7 @@ fn tell(x: Printed, g: Stage, p: Progress) -> Told
 // The header, which is always printed.
 fn next_begin(p: Progress, input: &[u8]) -> Told
     requires { p.stage ≡ Stage.Begin }
-    ensures* { λ r. ⌜ ((a : Areas) → Prints p input.now a r a) ⌝ }
+    ensures { ((a : Areas) → Prints p input.now a result a) }
 {
     if input.len() <= 65536 {
         tell(Printed::Header, Stage::First, p)
@@ -223,7 +226,7 @@ fn next_begin(p: Progress, input: &[u8]) -> Told
 
 // The first line is carried out or refused; behind it, at k, the second begins.
 fn opened(r: Reply, k: usize) -> Told
-    ensures* { λ t. ⌜ t ≡ pick (eqb r.number 0) (told Printed.Nothing (progress Stage.Lines 2 k r.settings)) (told (Printed.Refused 1 r.number) (progress Stage.Done 2 k r.settings)) ⌝ }
+    ensures { result ≡ pick (eqb r.number 0) (told Printed.Nothing (progress Stage.Lines 2 k r.settings)) (told (Printed.Refused 1 r.number) (progress Stage.Done 2 k r.settings)) }
 {
     let s = r.settings;
     let p = Progress {
@@ -241,7 +244,7 @@ fn opened(r: Reply, k: usize) -> Told
 
 // The end line: the nodes and levels taken.
 fn end_line(s: Settings) -> Printed
-    ensures* { λ r. ⌜ r ≡ Printed.End s.nodes_taken s.levels_taken ⌝ }
+    ensures { result ≡ Printed.End s.nodes_taken s.levels_taken }
 {
     Printed::End(s.nodes_taken, s.levels_taken)
 }
@@ -249,7 +252,7 @@ fn end_line(s: Settings) -> Printed
 // The input from byte k on.
 fn rest_of(input: &[u8], k: usize) -> &[u8]
     requires { k ≤ length input.now }
-    ensures* { λ r. ⌜ r.now ≡ drop k input.now ⌝ }
+    ensures { result.now ≡ drop k input.now }
 {
     &input[k..]
 }
@@ -258,7 +261,7 @@ fn rest_of(input: &[u8], k: usize) -> &[u8]
 fn next_line(p: Progress, m: usize, x: Said) -> Told
     requires line_bound { p.line ≤ 65537 }
     requires m_bound { p.at + m ≤ 65536 }
-    ensures* { λ r. ⌜ r ≡ told x.printed (progress Stage.Lines (p.line + 1) (p.at + m + 1) x.settings) ⌝ }
+    ensures { result ≡ told x.printed (progress Stage.Lines (p.line + 1) (p.at + m + 1) x.settings) }
 {
     let y = x.printed;
     let s = x.settings;
@@ -275,7 +278,7 @@ fn next_line(p: Progress, m: usize, x: Said) -> Told
 
 // What m bytes behind the last byte 10 print: none are the end, and others are a refused line.
 fn next_rest(p: Progress, m: usize) -> Told
-    ensures* { λ r. ⌜ r ≡ pick (eqb m 0) (told (Printed.End p.settings.nodes_taken p.settings.levels_taken) (progress Stage.Done p.line p.at p.settings)) (told (Printed.Refused p.line 10) (progress Stage.Last p.line p.at p.settings)) ⌝ }
+    ensures { result ≡ pick (eqb m 0) (told (Printed.End p.settings.nodes_taken p.settings.levels_taken) (progress Stage.Done p.line p.at p.settings)) (told (Printed.Refused p.line 10) (progress Stage.Last p.line p.at p.settings)) }
 {
     if m == 0 {
         let s = p.settings;
@@ -288,7 +291,7 @@ fn next_rest(p: Progress, m: usize) -> Told
 // The end line, behind a last line without its byte 10.
 fn next_last(p: Progress) -> Told
     requires { p.stage ≡ Stage.Last }
-    ensures* { λ r. ⌜ ((input : List ℕ) (a : Areas) → Prints p input a r a) ⌝ }
+    ensures { ((input : List ℕ) (a : Areas) → Prints p input a result a) }
 {
     let s = p.settings;
     tell(end_line(s), Stage::Done, p)
@@ -304,7 +307,7 @@ fn next_first(
 ) -> Told
     requires stage_value { p.stage ≡ Stage.First }
     requires input_len_bound { length input.now ≤ 65536 }
-    ensures* { λ r. ⌜ Prints p input.now (areas nodes.now levels.old workers.old) r (areas nodes.now levels.new workers.new) ⌝ }
+    ensures { Prints p input.now (areas nodes.now levels.old workers.old) result (areas nodes.now levels.new workers.new) }
 {
     if has(input, 10) {
         let q = up_to(input, 10);
@@ -325,7 +328,7 @@ fn next_lines(
 ) -> Told
     requires stage_value { p.stage ≡ Stage.Lines }
     requires input_value { counted p (length input.now) ≡ true }
-    ensures* { λ r. ⌜ Prints p input.now (areas nodes.old levels.old workers.old) r (areas nodes.new levels.new workers.new) ⌝ }
+    ensures { Prints p input.now (areas nodes.old levels.old workers.old) result (areas nodes.new levels.new workers.new) }
 {
     let at = p.at;
     let rest = rest_of(input, at);
@@ -341,7 +344,7 @@ fn next_lines(
 
 // Whether the next line begins within an input of n bytes that is short enough, and no more lines than bytes are before it.
 fn counted(p: Progress, n: usize) -> bool
-    ensures* { λ r. ⌜ r ≡ counted p n ⌝ }
+    ensures { result ≡ counted p n }
 {
     if n <= 65536 {
         if p.at <= n {
@@ -353,7 +356,7 @@ fn counted(p: Progress, n: usize) -> bool
 
 // Whether the input allows this progress: each that a run over it has is allowed.
 fn can_stand(p: Progress, input: &[u8]) -> bool
-    ensures* { λ r. ⌜ r ≡ can_stand p input.now ⌝ }
+    ensures { result ≡ can_stand p input.now }
 {
     let g = p.stage;
     match g {
@@ -374,7 +377,7 @@ fn advance(
     workers: &mut [u32],
 ) -> Told
     requires { can_stand p input.now ≡ true }
-    ensures* { λ r. ⌜ Next p input.now (areas nodes.old levels.old workers.old) r (areas nodes.new levels.new workers.new) ⌝ }
+    ensures { Next p input.now (areas nodes.old levels.old workers.old) result (areas nodes.new levels.new workers.new) }
 {
     let g = p.stage;
     match g {
@@ -395,7 +398,7 @@ pub fn next(
     levels: &mut [u32],
     workers: &mut [u32],
 ) -> Told
-    ensures* { λ r. ⌜ Next p input.now (areas nodes.old levels.old workers.old) r (areas nodes.new levels.new workers.new) ⌝ }
+    ensures { Next p input.now (areas nodes.old levels.old workers.old) result (areas nodes.new levels.new workers.new) }
 {
     if can_stand(p, input) {
         advance(p, input, nodes, levels, workers)

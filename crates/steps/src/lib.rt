@@ -1,5 +1,8 @@
 // What searching and moving do alike: changes of a head, the parts of question 6, going back, taking and closing with a level.
 // Relies on areas for cells, on record for the head, on rules for the definitions.
+
+#![tactic(auto)]
+
 ghost use Rattle.std.specs.Prelude.{◌≡◌, ◌+◌, ◌-◌, ◌≤◌};
 ghost use Rattle.words.specs.Digits.{DigitWidth, last_depth};
 ghost use Rattle.settings.specs.Sizes.{max_limit, most_depth, most_levels};
@@ -19,7 +22,7 @@ use settings::{Settings, last_depth};
 use words::{and, le, lt};
 
 // Going back from a level: whether the worker's level is met, and the level on the way whose previous it is.
-#[derive(Drop)]
+#[derive(Clone, Copy)]
 pub struct Way {
     pub meets: bool,
     pub child: u32,

@@ -1,5 +1,8 @@
 // The public operations of the table: opening, start, last answer. None has a `requires`; each contract is one equation.
 // Relies on settings for questions 1 to 3, on record for the worker's words, on areas for level 0.
+
+#![tactic(auto)]
+
 ghost use Rattle.std.specs.Prelude.{◌≡◌, ◌+◌, ◌*◌, ◌≤◌, eqb, length};
 ghost use Rattle.words.specs.Choice.{pick, first_no};
 ghost use Rattle.words.specs.Digits.{DigitWidth, pixel_number};
@@ -19,7 +22,7 @@ use settings::Settings;
 use words::{and, eq, fill_words, le};
 
 pub fn replied(number: u32, a: Answer, s: Settings) -> Reply
-    ensures* { λ r. ⌜ r ≡ reply number a 0 s ⌝ }
+    ensures { result ≡ reply number a 0 s }
 {
     Reply {
         number: number,
@@ -30,21 +33,21 @@ pub fn replied(number: u32, a: Answer, s: Settings) -> Reply
 }
 
 pub fn refusal(number: u32, s: Settings) -> Reply
-    ensures* { λ r. ⌜ r ≡ reply number Answer.Nothing 0 s ⌝ }
+    ensures { result ≡ reply number Answer.Nothing 0 s }
 {
     replied(number, Answer::Nothing, s)
 }
 
 // Word j of worker i. Word 0 of the worker past the last one is the end of the workers' words.
 fn word_place(i: u32, j: u32) -> usize
-    ensures* { λ r. ⌜ r ≡ worker_words * i + j ⌝ }
+    ensures { result ≡ worker_words * i + j }
 {
     (Settings::WORKER_WORDS as usize) * (i as usize) + (j as usize)
 }
 
 // Opening: writes level 0 and zeroes the workers' words.
 pub fn open(s: Settings, nodes: &[u32], levels: &mut [u32], workers: &mut [u32]) -> Reply
-    ensures* { λ r. ⌜ result_of r (areas nodes.now levels.new workers.new) ≡ opening s.width s (areas nodes.now levels.old workers.old) ⌝ }
+    ensures { result_of result (areas nodes.now levels.new workers.new) ≡ opening s.width s (areas nodes.now levels.old workers.old) }
 {
     let q = s.refused_opening(nodes.len(), levels.len(), workers.len());
     if q == 0 {
@@ -61,13 +64,13 @@ pub fn open(s: Settings, nodes: &[u32], levels: &mut [u32], workers: &mut [u32])
 
 // Row and column are at most 4,095.
 fn in_frame(row: u32, column: u32) -> bool
-    ensures* { λ r. ⌜ r ≡ question5 row column ⌝ }
+    ensures { result ≡ question5 row column }
 {
     and(le(row, Settings::MAX_SIDE), le(column, Settings::MAX_SIDE))
 }
 
 pub fn is_idle(h: Head) -> bool
-    ensures* { λ r. ⌜ r ≡ eqb (kind_no h.kind) 0 ⌝ }
+    ensures { result ≡ eqb (kind_no h.kind) 0 }
 {
     let k = h.kind;
     eq(kind_no(k), 0)
@@ -75,7 +78,7 @@ pub fn is_idle(h: Head) -> bool
 
 // The head of a call that starts.
 fn started(pixel: u32, h: Head) -> Head
-    ensures* { λ r. ⌜ r ≡ started pixel h ⌝ }
+    ensures { result ≡ started pixel h }
 {
     Head {
         kind: Kind::Look,
@@ -93,14 +96,14 @@ fn started(pixel: u32, h: Head) -> Head
 fn pixel_number(row: u32, column: u32) -> u32
     requires row_bound { row ≤ 4095 }
     requires column_bound { column ≤ 4095 }
-    ensures* { λ r. ⌜ r ≡ pixel_number row column ⌝ }
+    ensures { result ≡ pixel_number row column }
 {
     row * 4096 + column
 }
 
 // Questions 1 to 4, which start, turn and last answer ask of a worker.
 pub fn refused_worker(s: Settings, i: u32, nodes: &[u32], levels: &[u32], workers: &[u32]) -> u32
-    ensures* { λ r. ⌜ r ≡ first_four s.width s i (length nodes.now) (length levels.now) (length workers.now) ⌝ }
+    ensures { result ≡ first_four s.width s i (length nodes.now) (length levels.now) (length workers.now) }
 {
     let q = s.refused(nodes.len(), levels.len(), workers.len());
     if q == 0 {
@@ -112,7 +115,7 @@ pub fn refused_worker(s: Settings, i: u32, nodes: &[u32], levels: &[u32], worker
 
 // Question 17: a looking call is a viewer's, a placing call another worker's.
 fn sort_fits(s: Settings, looks: bool, i: u32) -> bool
-    ensures* { λ r. ⌜ r ≡ question17 s looks i ⌝ }
+    ensures { result ≡ question17 s looks i }
 {
     let v = s.views(i);
     if looks {
@@ -124,7 +127,7 @@ fn sort_fits(s: Settings, looks: bool, i: u32) -> bool
 
 // The number of the first no, given the answers to questions 17, 6 and 7.
 fn after_five(right: bool, fit: bool, idle: bool) -> u32
-    ensures* { λ r. ⌜ r ≡ pick right (pick fit (pick idle 0 7) 6) 17 ⌝ }
+    ensures { result ≡ pick right (pick fit (pick idle 0 7) 6) 17 }
 {
     if right {
         if fit { if idle { 0 } else { 7 } } else { 6 }
@@ -138,7 +141,7 @@ fn after_five(right: bool, fit: bool, idle: bool) -> u32
 fn record_fits(s: Settings, i: u32, workers: &[u32]) -> bool
     requires digit_width { DigitWidth s.width }
     requires limit_le_max_limit { s.limit ≤ max_limit }
-    ensures* { λ r. ⌜ r ≡ fits s.width (views s i) s (load workers.now i) ⌝ }
+    ensures { result ≡ fits s.width (views s i) s (load workers.now i) }
 {
     let v = s.views(i);
     if idle_at(workers, i) {
@@ -152,7 +155,7 @@ fn record_fits(s: Settings, i: u32, workers: &[u32]) -> bool
 fn refused_record(s: Settings, looks: bool, i: u32, workers: &[u32]) -> u32
     requires digit_width { DigitWidth s.width }
     requires limit_le_max_limit { s.limit ≤ max_limit }
-    ensures* { λ r. ⌜ r ≡ after_five s.width s looks i (load workers.now i) ⌝ }
+    ensures { result ≡ after_five s.width s looks i (load workers.now i) }
 {
     after_five(
         sort_fits(s, looks, i),
@@ -172,7 +175,7 @@ fn refused_start(
     levels: &[u32],
     workers: &[u32],
 ) -> u32
-    ensures* { λ r. ⌜ r ≡ first_no (start_questions s.width s looks i row column (areas nodes.now levels.now workers.now)) ⌝ }
+    ensures { result ≡ first_no (start_questions s.width s looks i row column (areas nodes.now levels.now workers.now)) }
 {
     let four = refused_worker(s, i, nodes, levels, workers);
     let frame = in_frame(row, column);
@@ -191,7 +194,7 @@ fn refused_start(
 fn begin_call(i: u32, row: u32, column: u32, workers: &mut [u32])
     requires row_bound { row ≤ 4095 }
     requires column_bound { column ≤ 4095 }
-    ensures* { λ r. ⌜ workers.new ≡ begun i row column workers.old ⌝ }
+    ensures { workers.new ≡ begun i row column workers.old }
 {
     let h = Head::load(workers, i);
     started(pixel_number(row, column), h).store(0, workers, i);
@@ -208,7 +211,7 @@ pub fn begin(
     levels: &[u32],
     workers: &mut [u32],
 ) -> u32
-    ensures* { λ q. ⌜ result_of (start_reply q s) (areas nodes.now levels.now workers.new) ≡ start s.width s looks i row column (areas nodes.now levels.now workers.old) ⌝ }
+    ensures { result_of (start_reply result s) (areas nodes.now levels.now workers.new) ≡ start s.width s looks i row column (areas nodes.now levels.now workers.old) }
 {
     let q = refused_start(s, looks, i, row, column, nodes, levels, workers);
     if q == 0 {
@@ -230,7 +233,7 @@ pub fn start(
     levels: &[u32],
     workers: &mut [u32],
 ) -> Reply
-    ensures* { λ r. ⌜ result_of r (areas nodes.now levels.now workers.new) ≡ start s.width s looks i row column (areas nodes.now levels.now workers.old) ⌝ }
+    ensures { result_of result (areas nodes.now levels.now workers.new) ≡ start s.width s looks i row column (areas nodes.now levels.now workers.old) }
 {
     let q = begin(s, looks, i, row, column, nodes, levels, workers);
     if q == 0 {
@@ -242,7 +245,7 @@ pub fn start(
 
 // The answer that a record holds.
 pub fn answer_in(h: Head) -> Answer
-    ensures* { λ r. ⌜ r ≡ last_of h ⌝ }
+    ensures { result ≡ last_of h }
 {
     let a = answer_of(h.answer, h.answer_node);
     if is_idle(h) { a } else { Answer::Open }
@@ -250,7 +253,7 @@ pub fn answer_in(h: Head) -> Answer
 
 // Questions 1 to 4 and 6, which a last answer asks.
 fn refused_last(s: Settings, i: u32, nodes: &[u32], levels: &[u32], workers: &[u32]) -> u32
-    ensures* { λ r. ⌜ r ≡ first_no (last_questions s.width s i (areas nodes.now levels.now workers.now)) ⌝ }
+    ensures { result ≡ first_no (last_questions s.width s i (areas nodes.now levels.now workers.now)) }
 {
     let q = refused_worker(s, i, nodes, levels, workers);
     if q == 0 {
@@ -267,7 +270,7 @@ fn refused_last(s: Settings, i: u32, nodes: &[u32], levels: &[u32], workers: &[u
 
 // The last answer of worker i.
 pub fn last_answer(s: Settings, i: u32, nodes: &[u32], levels: &[u32], workers: &[u32]) -> Reply
-    ensures* { λ r. ⌜ result_of r (areas nodes.now levels.now workers.now) ≡ last_answer s.width s i (areas nodes.now levels.now workers.now) ⌝ }
+    ensures { result_of result (areas nodes.now levels.now workers.now) ≡ last_answer s.width s i (areas nodes.now levels.now workers.now) }
 {
     let q = refused_last(s, i, nodes, levels, workers);
     if q == 0 {

@@ -1,5 +1,8 @@
 // The text format: parts of the caller's text between two bytes, numbers, and what a line asks for.
 // Relies on words for tests. Nothing here knows the table.
+
+#![tactic(auto)]
+
 ghost use Rattle.std.specs.Prelude.{◌≡◌, true, not, ◌-◌, ◌≤◌, eqb, length, get_or};
 ghost use Rattle.words.specs.Choice.{pick, every};
 ghost use Rattle.text.specs.Commands.{is_digit, is_number, number_of, field, field_count, is_letter, has_three, has_four, has_one, later, command};
@@ -8,7 +11,7 @@ ghost use Rattle.text.specs.Cut.{up_to, past, has};
 use words::and;
 
 // What a line asks for. Unread: the line does not read.
-#[derive(Drop)]
+#[derive(Clone, Copy)]
 pub enum Command {
     Sizes(u32, u32, u32, u32),
     Starts(u32, u32, u32),

@@ -1,5 +1,8 @@
 // A turn of a worker with a call open, once questions 1 to 4 are answered yes: the record is loaded, its kind's method is called, what it leaves is stored.
 // Relies on worker and mover for the turns, on record for the worker's words.
+
+#![tactic(auto)]
+
 ghost use Rattle.std.specs.Prelude.{◌≡◌, true, false, [], ◌+◌, ◌*◌, ◌≤◌, length};
 ghost use Rattle.settings.specs.Sizes.{worker_words};
 ghost use Rattle.settings.specs.Cut.{Sized};
@@ -17,7 +20,7 @@ use settings::Settings;
 use worker::{Turned, Worker};
 
 // What a turn gives: its number, of the settings what it can change, and what its exchange came to. Its answer stands in the record.
-#[derive(Drop)]
+#[derive(Clone, Copy)]
 pub struct Done {
     pub number: u32,
     pub nodes_taken: u32,

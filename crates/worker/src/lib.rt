@@ -1,5 +1,8 @@
 // A worker: its record's head by value, with a method for each kind of turn of a search that hands back the advanced worker.
 // Relies on steps for what searching and moving do alike, on areas for cells, on record for the head, on rules for the definitions.
+
+#![tactic(auto)]
+
 ghost use Rattle.std.specs.Prelude.{◌≡◌, true, false, [], ◌≤◌, ◌-◌};
 ghost use Rattle.rules.specs.Heads.{holding_level, ended};
 ghost use Rattle.words.specs.Choice.{pick, both};
@@ -30,13 +33,13 @@ use steps::{
 use words::{and, eq, le, lt};
 
 // Document 01: "A worker's record goes into a turn and comes out of it."
-#[derive(Drop)]
+#[derive(Clone, Copy)]
 pub struct Worker {
     pub head: Head,
 }
 
 // What a turn gives: its number (0, or 6 or 9), answer, settings, the advanced worker, and the number + 1 of the level that a Move has begun to, or 0.
-#[derive(Drop)]
+#[derive(Clone, Copy)]
 pub struct Turned {
     pub number: u32,
     pub answer: Answer,
