@@ -1,0 +1,16 @@
+-- `export::given_numbers` meets its contract.
+-- Relies on the definition of what is given in numbers.
+use Rattle.export.specs.Listed.{given_numbers}
+use Rattle.export.proofs.given_numbers.Goals as goal
+
+pub returns-in-Refused : goal.returns-in-Refused
+unfolding given_numbers
+returns-in-Refused c = simp c.a-1.given.1
+
+pub returns-in-Pixel : goal.returns-in-Pixel
+unfolding given_numbers
+returns-in-Pixel c = simp c.a-in-Pixel-1.given.1
+
+pub returns-in-End : goal.returns-in-End
+unfolding given_numbers
+returns-in-End c = cc

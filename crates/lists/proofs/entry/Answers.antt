@@ -1,0 +1,28 @@
+-- `lists::entry` meets its contract.
+-- Relies on the ways through a list of turns.
+use Rattle.turns.proofs.Ways.{not-idle}
+use Rattle.lists.proofs.Ways.{entry_idle, entry_open, entry_sized, entry_viewers, views_so}
+use mathlib.Core.Path.{refl}
+use borrow.Author.Rules.{rules}
+use Rattle.lists.proofs.entry.Goals as goal
+
+pub views_of-requires : goal.views_of-requires
+views_of-requires c = search (rules, entry_viewers)
+
+pub views_of-requires-else-idle_at : goal.views_of-requires-else-idle_at
+views_of-requires-else-idle_at c = search (rules, entry_viewers)
+
+pub view_here-d-requires : goal.view_here-d-requires
+view_here-d-requires c = (search (rules, entry_sized), search (rules, not-idle))
+
+pub open_entry-requires : goal.open_entry-requires
+open_entry-requires c = (search rules, (search rules, (search rules, (search rules, (search rules, (search (rules, not-idle), search (rules, views_so)))))))
+
+pub returns-then-idle_at : goal.returns-then-idle_at
+returns-then-idle_at c = search (rules, entry_idle)
+
+pub returns-then-views_of : goal.returns-then-views_of
+returns-then-views_of c =     let p = c.requires in
+    let a : _ = views_so _ _ c.views_of-else-idle_at.ensures c.if-views_of.true in
+    let o : _ = not-idle _ _ c.idle_at.ensures c.if-idle_at.false in
+    entry_open _ _ _ _ _ _ _ p.1.1.0 p.0 p.1.1.1.0 p.1.1.1.1 c.tallied.ensures c.view_here-d.ensures.workers_after c.with_counts-n.ensures refl a o

@@ -1,0 +1,13 @@
+-- `lists::open_entry` meets its contract.
+-- Relies on the ways through a list of turns.
+use Rattle.lists.proofs.Ways.{entry_sized, entry_inside, entry_open}
+use mathlib.Core.Path.{refl}
+use Rattle.lists.proofs.open_entry.Goals as goal
+
+pub open_here-d-requires : goal.open_here-d-requires
+open_here-d-requires c = let p = c.requires in
+    (entry_sized _ c.args.t c.args.i _ _ _ c.with_counts-n.ensures p.1.1.1.0, (entry_inside _ c.args.t _ _ _ _ p.1.1.1.0 p.1.1.1.1.0, p.1.1.1.1.1.0))
+
+pub returns : goal.returns
+returns c = let p = c.requires in
+    entry_open _ _ _ _ _ _ _ p.1.1.0 p.0 p.1.1.1.0 p.1.1.1.1.0 c.tallied.ensures c.open_here-d.ensures c.with_counts-n.ensures refl p.1.1.1.1.1.1 p.1.1.1.1.1.0

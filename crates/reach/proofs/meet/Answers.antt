@@ -1,0 +1,15 @@
+-- `reach::meet` meets its contract.
+-- Relies on Ways.
+use Rattle.words.proofs.Choice.{via}
+use Rattle.reach.proofs.Ways.{thing_fits, dangle_bound, met-taken, met-dangles}
+use borrow.Author.Rules.{rules}
+use Rattle.reach.proofs.meet.Goals as goal
+
+pub meet_thing-requires : goal.meet_thing-requires
+meet_thing-requires c = (search (rules, via, thing_fits), search rules)
+
+pub returns-then-ref_taken : goal.returns-then-ref_taken
+returns-then-ref_taken c = (search (rules, via, met-taken), search rules)
+
+pub returns-else-ref_taken : goal.returns-else-ref_taken
+returns-else-ref_taken c = (search (rules, via, met-dangles), search (rules, dangle_bound))

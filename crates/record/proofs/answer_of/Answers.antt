@@ -1,0 +1,24 @@
+-- `record::answer_of` meets its contract.
+-- Relies on Numbers for the other numbers.
+use Rattle.record.proofs.Numbers.{answer_rest}
+use Rattle.record.specs.Kinds.{answer_of}
+use Rattle.record.proofs.answer_of.Goals as goal
+
+pub returns-in-1 : goal.returns-in-1
+unfolding answer_of
+returns-in-1 c = simp c.in-1.keys1
+
+pub returns-in-2 : goal.returns-in-2
+unfolding answer_of
+returns-in-2 c = simp c.in-2.keys2
+
+pub returns-in-3 : goal.returns-in-3
+unfolding answer_of
+returns-in-3 c = simp c.in-3.keys3
+
+pub returns-in-5 : goal.returns-in-5
+unfolding answer_of
+returns-in-5 c = simp c.in-5.keys4
+
+pub returns-in_default : goal.returns-in_default
+returns-in_default c = answer_rest _ _ c.in_default.rest.0.0.0.1 c.in_default.rest.0.0.1 c.in_default.rest.0.1 c.in_default.rest.1

@@ -1,0 +1,35 @@
+-- `run::advance` meets its contract.
+-- Relies on the ways through a stage.
+use borrow.Author.Rules.{rules}
+use Rattle.run.specs.Remaining.{goes_on}
+use Rattle.run.proofs.Stages.{too_long, stands_first, stands_lines, next_goes, next_done}
+use Rattle.run.proofs.advance.Goals as goal
+
+pub next_first-requires : goal.next_first-requires
+next_first-requires c = search (rules, stands_first)
+
+pub next_lines-requires : goal.next_lines-requires
+next_lines-requires c = search (rules, stands_lines)
+
+pub returns-in-Begin : goal.returns-in-Begin
+unfolding goes_on
+returns-in-Begin c = search (rules, next_goes, c.next_begin.ensures)
+
+pub returns-in-TooLong : goal.returns-in-TooLong
+unfolding goes_on
+returns-in-TooLong c = search (rules, next_goes, too_long)
+
+pub returns-in-First : goal.returns-in-First
+unfolding goes_on
+returns-in-First c = search (rules, next_goes)
+
+pub returns-in-Lines : goal.returns-in-Lines
+unfolding goes_on
+returns-in-Lines c = search (rules, next_goes)
+
+pub returns-in-Last : goal.returns-in-Last
+unfolding goes_on
+returns-in-Last c = search (rules, next_goes, c.next_last.ensures)
+
+pub returns-in-Done : goal.returns-in-Done
+returns-in-Done c = search (rules, next_done)
