@@ -31,8 +31,8 @@ not_full says_absent e = let z : ◌≡◌ {A = ℕ} 0 1 = cc in omega arith
 tells_full : (h : Head) → eqb (kind_no h.kind) 0 ≡ true → h.answer ≡ 3 → last_of h ≡ Full
 unfolding last_of answer_of
 tells_full h e f =
-    let a : answer_of h.answer h.answer_node_lem ≡ Full = ap (λ (c : ℕ). answer_of c h.answer_node_lem) f in
-    pick_true (eqb (kind_no h.kind) 0) (answer_of h.answer h.answer_node_lem) Open e ∙ a
+    let a : answer_of h.answer h.answer_node ≡ Full = ap (λ (c : ℕ). answer_of c h.answer_node) f in
+    pick_true (eqb (kind_no h.kind) 0) (answer_of h.answer h.answer_node) Open e ∙ a
 
 number-zero : (h : Head) → last_of h ≢ Full → number_by h ≡ 0
 unfolding number_by

@@ -186,7 +186,7 @@ head_to_lem h n i l k =
     let e₆ : p + 6 ≡ suc (suc (suc (suc (suc (suc p))))) = omega arith in
     let e₉ : p + 9 ≡ suc (suc (suc (suc (suc (suc (suc (suc (suc p)))))))) = omega arith in
     rw (e₂, e₆, e₉)
-    (kept_words l p (kind_no h.kind) h.pixel h.level h.node h.count h.held_node h.held_level h.answer h.answer_node_lem n
+    (kept_words l p (kind_no h.kind) h.pixel h.level h.node h.count h.held_node h.held_level h.answer h.answer_node n
     (sym (k.pixel_is ∙ at 1 _ (omega arith) (omega arith)))
     (sym (k.held_is ∙ at 5 _ (omega arith) (omega arith)))
     (sym (k.answer_is ∙ at 7 _ (omega arith) (omega arith)))

@@ -34,7 +34,7 @@ pub record Keeps (h h₀ : Head) : Type 0 where
   pub pixel_is : h.pixel ≡ h₀.pixel
   pub held_is : h.held_node ≡ h₀.held_node
   pub answer_is : h.answer ≡ h₀.answer
-  pub answer_node_is : h.answer_node_lem ≡ h₀.answer_node_lem
+  pub answer_node_is : h.answer_node ≡ h₀.answer_node
 
 -- the words with the head and the number n of Moves: pixel, held node, last answer and its node are not changed by a moving turn
 unfoldable pub head_to : Head → ℕ → ℕ → List ℕ → List ℕ

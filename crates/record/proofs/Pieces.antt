@@ -92,8 +92,9 @@ module _ (w i : ℕ) where
       (ms : List Move) (l : List ℕ) (k : ℕ)
       → AllSized ms → Outside (worker_place i + head_words) (move_words * length ms) k → get_or (store_moves ms i l) k 0 ≡ get_or l k 0
   unfolding store_moves move_place
-  moves_outside ms l k s (before h) = moves_before ms l k h
+  moves_outside [] l k s (before h) = moves_before [] l k h
   moves_outside [] l k s (after h) = refl
+  moves_outside (m ∷ ms) l k (e, s) (before h) = moves_before (m ∷ ms) l k h
   moves_outside (m ∷ ms) l k (e, s) (after h) =
       moves_outside ms (move_to m (move_place i (length ms)) l) k s (after (omega arith))
       ∙ move_outside m (move_place i (length ms)) l k e (after (omega arith))

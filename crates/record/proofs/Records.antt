@@ -104,7 +104,7 @@ store-none h i l = refl
 abbrev pub idle : Record
 idle =
     record'
-    (record { kind = Idle; pixel = 0; level = 0; node = 0; count = 0; held_node = 0; held_level = 0; answer = 0; answer_node_lem = 0 })
+    (record { kind = Idle; pixel = 0; level = 0; node = 0; count = 0; held_node = 0; held_level = 0; answer = 0; answer_node = 0 })
     []
 
 pub zero-idle : (l : List ℕ) (i : ℕ) → cells l (worker_place i) 10 ≡ replicate 10 0 → load l i ≡ idle

@@ -29,13 +29,13 @@ head_from b =
       held_node = get_or b 5 0;
       held_level = get_or b 6 0;
       answer = get_or b 7 0;
-      answer_node_lem = get_or b 8 0;
+      answer_node = get_or b 8 0;
     }
 
 -- the same as words, and behind them the number of Moves
 unfoldable pub head_list : Head → ℕ → List ℕ
 head_list h m =
-    kind_no h.kind ∷ h.pixel ∷ h.level ∷ h.node ∷ h.count ∷ h.held_node ∷ h.held_level ∷ h.answer ∷ h.answer_node_lem ∷ m ∷ []
+    kind_no h.kind ∷ h.pixel ∷ h.level ∷ h.node ∷ h.count ∷ h.held_node ∷ h.held_level ∷ h.answer ∷ h.answer_node ∷ m ∷ []
 
 -- the first word of worker i
 unfoldable pub worker_place : ℕ → ℕ

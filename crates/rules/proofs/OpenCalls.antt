@@ -230,7 +230,7 @@ open_busy : (r : Record) → last_of r.head ≡ Open → question7 r ≡ false
 unfolding last_of question7 pick
 open_busy r = by (eqb (kind_no r.head.kind) 0)
   where
-    by : (b : Bool) → pick b (answer_of r.head.answer r.head.answer_node_lem) Open ≡ Open → b ≡ false
+    by : (b : Bool) → pick b (answer_of r.head.answer r.head.answer_node) Open ≡ Open → b ≡ false
     by true e = absurd (answer_closed _ _ e)
     by false e = refl
 

@@ -32,11 +32,13 @@ opening_keeps w s a =
 first_two : {n : ℕ} (p q : Question) (qs : List Question) → FirstNo n (p ∷ q ∷ []) → FirstNo n (p ∷ q ∷ qs)
 first_two p q qs (here e y) = here e y
 first_two p q qs (later y (here e z)) = later y (here e z)
+first_two p q qs (later y (later z f)) = elim f [ ]
 
 -- which of the two it is
 below_six : {n : ℕ} (b c : Bool) → FirstNo n (asks 1 b ∷ asks 2 c ∷ []) → n ≢ 6
 below_six b c (here e y) z = omega arith
 below_six b c (later y (here e x)) z = omega arith
+below_six b c (later y (later x f)) z = elim f [ ]
 
 -- the settings and areas that it was handed
 handed : (w : ℕ) (s : Settings) (a : Areas) (n : ℕ) → n ≢ 0 → (opening w s a).reply.number ≡ n → RefusedAlike w s a n

@@ -85,6 +85,7 @@ module _ (w i : ℕ) (s₀ : Settings) (here : i < s₀.workers) (view : views s
           ends-here w i (ViewsAlone w p x₀) n x (ap goes_on a) (finds R (shown-stays k.nodes_stay k.levels_stay (noted-shown F k.top (F.inv.partition.noted R j) (q ∙ k.key_is))) a)
       on f T e viewers.absent a (ends_absent m u g) =
           ends-here w i (ViewsAlone w p x₀) n x (ap goes_on a) (misses (λ n h. let (j, q) = shown-noted F k.top (shown-stays (sym k.nodes_stay) (sym k.levels_stay) h) in m n (F.inv.partition.noted-placed n j) (q ∙ sym k.key_is)) a)
+      on f T e viewers.refused a g = elim g [ ]
 
       by : Runs n → TurnIs F i here busy → ViewsAlone w p x₀ (run_alone w (suc n) i x)
       by f (carried e T) = let a = ap (λ (u : Result). u.reply.answer) e in on f T e (subst ToViewer a looks.answers) a T.rowing

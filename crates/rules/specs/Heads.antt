@@ -18,7 +18,7 @@ to k h =
       held_node = h.held_node;
       held_level = h.held_level;
       answer = h.answer;
-      answer_node_lem = h.answer_node_lem;
+      answer_node = h.answer_node;
     }
 
 -- the next turn is at level g
@@ -33,7 +33,7 @@ to_level k g h =
       held_node = h.held_node;
       held_level = h.held_level;
       answer = h.answer;
-      answer_node_lem = h.answer_node_lem;
+      answer_node = h.answer_node;
     }
 
 -- the next turn is at node i, the c-th of its chain
@@ -48,7 +48,7 @@ to_node k i c h =
       held_node = h.held_node;
       held_level = h.held_level;
       answer = h.answer;
-      answer_node_lem = h.answer_node_lem;
+      answer_node = h.answer_node;
     }
 
 -- the worker holds a node (its number + 1) or none (0)
@@ -63,7 +63,7 @@ holding_node k n h =
       held_node = n;
       held_level = h.held_level;
       answer = h.answer;
-      answer_node_lem = h.answer_node_lem;
+      answer_node = h.answer_node;
     }
 
 -- the worker holds a level (its number + 1) or none (0)
@@ -78,7 +78,7 @@ holding_level k g h =
       held_node = h.held_node;
       held_level = g;
       answer = h.answer;
-      answer_node_lem = h.answer_node_lem;
+      answer_node = h.answer_node;
     }
 
 -- the call has ended with an answer's number and node; n is what the worker still holds as a spare node
@@ -93,7 +93,7 @@ ended a i n h =
       held_node = n;
       held_level = h.held_level;
       answer = a;
-      answer_node_lem = i;
+      answer_node = i;
     }
 
 -- "Start stands before Look at the root."
@@ -108,7 +108,7 @@ started p h =
       held_node = h.held_node;
       held_level = h.held_level;
       answer = h.answer;
-      answer_node_lem = h.answer_node_lem;
+      answer_node = h.answer_node;
     }
 
 -- the node that a Move remembered last

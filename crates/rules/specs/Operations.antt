@@ -134,7 +134,7 @@ last_questions w s i a =
 
 -- the answer that a record's head holds
 unfoldable pub last_of : Head → Answer
-last_of h = pick (eqb (kind_no h.kind) 0) (answer_of h.answer h.answer_node_lem) Open
+last_of h = pick (eqb (kind_no h.kind) 0) (answer_of h.answer h.answer_node) Open
 
 -- last answer: it changes nothing
 unfoldable pub last_answer : ℕ → Settings → ℕ → Areas → Result

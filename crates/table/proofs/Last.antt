@@ -26,7 +26,7 @@ use Rattle.table.proofs.Questions.{after-four}
 
 -- the answer that a record holds, by its head
 module _ (h : Head) where
-  pub answer_idle : {a : Answer} → a ≡ answer_of h.answer h.answer_node_lem → eqb (kind_no h.kind) 0 ≡ true → a ≡ last_of h
+  pub answer_idle : {a : Answer} → a ≡ answer_of h.answer h.answer_node → eqb (kind_no h.kind) 0 ≡ true → a ≡ last_of h
   unfolding last_of pick
   answer_idle a t = simp (t, a)
 

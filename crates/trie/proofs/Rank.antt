@@ -23,6 +23,7 @@ behind n [] = 0
 behind n (m ∷ ms) = pick (ℕ_discrete n m) (length ms) (behind n ms)
 
 nodup_front : (pre : List ℕ) (n : ℕ) (post : List ℕ) → NoDup (pre ++ n ∷ post) → ¬ (n ∈ pre)
+nodup_front [] n post d i = elim i [ ]
 nodup_front (m ∷ pre) n post d (Memᴰ.head e) = d.0 (rw (sym e) (Memᴰ.append_right pre (Memᴰ.head refl)))
 nodup_front (m ∷ pre) n post d (Memᴰ.tail i) = nodup_front pre n post d.1 i
 

@@ -11,4 +11,4 @@ pub overflow_add-result : goal.overflow_add-result
 overflow_add-result c = search (rules, word_fits)
 
 pub returns : goal.returns
-returns c = (cc, search (rules, place_most))
+returns c = record { value = cc; upper_bound = search (rules, place_most) }

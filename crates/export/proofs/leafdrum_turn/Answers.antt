@@ -12,7 +12,7 @@ returns-else-q-eq0 c = export_steps c.ended_refused.ensures (turn-refused _ _ _ 
 
 pub view_here-d-requires : goal.view_here-d-requires
 view_here-d-requires c = let o = via c.refused_turn-q.ensures c.if-q-eq0.true in
-    (one_sized _ _ _ _ _ o, alone_open _ _ _ _ _ o)
+    record { sized = one_sized _ _ _ _ _ o; bound = alone_open _ _ _ _ _ o }
 
 pub returns-then-d-eq6 : goal.returns-then-d-eq6
 returns-then-d-eq6 c = let o = via c.refused_turn-q.ensures c.if-q-eq0.true in
@@ -24,7 +24,7 @@ returns-then-views c = let o = via c.refused_turn-q.ensures c.if-q-eq0.true in
 
 pub run_list-t-requires : goal.run_list-t-requires
 run_list-t-requires c = let o = via c.refused_turn-q.ensures c.if-q-eq0.true in
-    (one_three _ _ _ _ _ o, one_below _ _ _ _ _ o refl)
+    record { workers_value = one_three _ _ _ _ _ o; rest_value = one_below _ _ _ _ _ o refl }
 
 pub returns-then-t-eq6 : goal.returns-then-t-eq6
 returns-then-t-eq6 c = let o = via c.refused_turn-q.ensures c.if-q-eq0.true in

@@ -11,7 +11,7 @@ pub returns-then-list-eq0 : goal.returns-then-list-eq0
 returns-then-list-eq0 c = list_steps c.ended_refused-then-list-eq0.ensures (none_done _ _ _ _ _ _ c.refused_list-q.ensures c.if-q-eq0.true c.if-list-eq0.true)
 
 pub run_list-t-requires : goal.run_list-t-requires
-run_list-t-requires c = (asked_three _ _ _ _ _ _ c.refused_list-q.ensures c.if-q-eq0.true, apart_below _ c.wide-first.ensures c.if-list-eq0.false _ (asked_below _ _ _ _ _ _ c.refused_list-q.ensures c.if-q-eq0.true))
+run_list-t-requires c = record { workers_value = asked_three _ _ _ _ _ _ c.refused_list-q.ensures c.if-q-eq0.true; rest_value = apart_below _ c.wide-first.ensures c.if-list-eq0.false _ (asked_below _ _ _ _ _ _ c.refused_list-q.ensures c.if-q-eq0.true) }
 
 pub returns : goal.returns
 returns c = list_steps c.ended_list.ensures (apart_done _ c.wide-first.ensures c.if-list-eq0.false _ _ _ _ _ c.run_list-t.result c.refused_list-q.ensures c.if-q-eq0.true c.run_list-t.ensures c.with_counts.ensures)

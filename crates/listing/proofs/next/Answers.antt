@@ -6,7 +6,7 @@ use borrow.Author.Rules.{rules}
 use Rattle.listing.proofs.next.Goals as goal
 
 pub seen_from-x-requires : goal.seen_from-x-requires
-seen_from-x-requires c = (search (rules, reading_wide), search (rules, reading_fits))
+seen_from-x-requires c = record { digit_width = search (rules, reading_wide); fits = search (rules, reading_fits) }
 
 pub returns-then-place-le-END : goal.returns-then-place-le-END
 returns-then-place-le-END c = search (rules, next_answer)

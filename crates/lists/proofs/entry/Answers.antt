@@ -13,10 +13,10 @@ pub views_of-requires-else-idle_at : goal.views_of-requires-else-idle_at
 views_of-requires-else-idle_at c = search (rules, entry_viewers)
 
 pub view_here-d-requires : goal.view_here-d-requires
-view_here-d-requires c = (search (rules, entry_sized), search (rules, not-idle))
+view_here-d-requires c = record { sized = search (rules, entry_sized); bound = search (rules, not-idle) }
 
 pub open_entry-requires : goal.open_entry-requires
-open_entry-requires c = (search rules, (search rules, (search rules, (search rules, (search rules, (search (rules, not-idle), search (rules, views_so)))))))
+open_entry-requires c = record { le_left = search rules; left_bound = search rules; number_value = search rules; workers_value = search rules; i_lt_workers = search rules; bound = search (rules, not-idle); i_value = search (rules, views_so) }
 
 pub returns-then-idle_at : goal.returns-then-idle_at
 returns-then-idle_at c = search (rules, entry_idle)

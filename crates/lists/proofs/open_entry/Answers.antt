@@ -6,7 +6,7 @@ use Rattle.lists.proofs.open_entry.Goals as goal
 
 pub open_here-d-requires : goal.open_here-d-requires
 open_here-d-requires c = let p = c.requires in
-    (entry_sized _ c.args.t c.args.i _ _ _ c.with_counts-n.ensures p.1.1.1.0, (entry_inside _ c.args.t _ _ _ _ p.1.1.1.0 p.1.1.1.1.0, p.1.1.1.1.1.0))
+    record { sized = entry_sized _ c.args.t c.args.i _ _ _ c.with_counts-n.ensures p.1.1.1.0; worker_words_in_bounds = entry_inside _ c.args.t _ _ _ _ p.1.1.1.0 p.1.1.1.1.0; bound = p.1.1.1.1.1.0 }
 
 pub returns : goal.returns
 returns c = let p = c.requires in

@@ -6,7 +6,7 @@ use borrow.Author.Rules.{rules}
 use Rattle.lists.proofs.open_turn.Goals as goal
 
 pub run_list-t-requires : goal.run_list-t-requires
-run_list-t-requires c = let p = c.requires in (one_three _ _ _ _ _ p, one_below _ _ _ _ _ p refl)
+run_list-t-requires c = let p = c.requires in record { workers_value = one_three _ _ _ _ _ p; rest_value = one_below _ _ _ _ _ p refl }
 
 pub returns-then-t-eq6 : goal.returns-then-t-eq6
 returns-then-t-eq6 c = search (rules, one_six)

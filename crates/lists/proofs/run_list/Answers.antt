@@ -14,7 +14,7 @@ returns-then-t-eq0 c = search (rules, list_left)
 pub entry-t-requires : goal.entry-t-requires
 entry-t-requires c = let v = c.loop-t.invariant in
     let a = c.args in
-    (left_of c.if-t-eq0.false, (v.5, (v.7, (of_three _ _ _ _ _ v.6, entry_below _ _ v.4 v.8 (place_in a.first a.rest.now _ v.0)))))
+    record { le_left = left_of c.if-t-eq0.false; left_bound = v.5; number_value = v.7; workers_value = of_three _ _ _ _ _ v.6; i_lt_workers = entry_below _ _ v.4 v.8 (place_in a.first a.rest.now _ v.0) }
 
 pub returns-else-t-eq0-2 : goal.returns-else-t-eq0-2
 returns-else-t-eq0-2 c = let v = c.loop-t.invariant in

@@ -8,11 +8,11 @@ use Rattle.printing.proofs.spell.Goals as goal
 
 pub returns-in-Nothing : goal.returns-in-Nothing
 unfolding bytes_of
-returns-in-Nothing c = told c.enum_told-1.given.1 refl
+returns-in-Nothing c = told c.in-Nothing.is refl
 
 pub returns-in-Header : goal.returns-in-Header
 unfolding bytes_of ascii
-returns-in-Header c = told c.enum_told-in-Header-1.given.1 c.put_bytes.ensures.1
+returns-in-Header c = told c.in-Header.is c.put_bytes.ensures.1
 
 pub returns-in-New : goal.returns-in-New
 unfolding bytes_of ascii

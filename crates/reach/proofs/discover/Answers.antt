@@ -6,4 +6,4 @@ use borrow.Author.Rules.{rules}
 use Rattle.reach.proofs.discover.Goals as goal
 
 pub returns : goal.returns
-returns c = (search (rules, discover_steps), omega arith)
+returns c = record { result_after = search (rules, discover_steps); count_bound_2 = omega arith }

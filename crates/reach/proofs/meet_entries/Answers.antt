@@ -19,4 +19,4 @@ loop-e-preserved c =     let l = c.loop-e.invariant in (
     )
 
 pub returns : goal.returns
-returns c = (search (rules, entries-all), omega arith)
+returns c = record { result_after = search (rules, entries-all); count_bound_2 = omega arith }

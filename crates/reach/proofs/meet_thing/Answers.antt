@@ -8,7 +8,7 @@ use borrow.Author.Rules.{rules}
 use Rattle.reach.proofs.meet_thing.Goals as goal
 
 pub returns-then-mark_at-eq0 : goal.returns-then-mark_at-eq0
-returns-then-mark_at-eq0 c = (search (tests, via, thing_new), search rules)
+returns-then-mark_at-eq0 c = record { result_after = search (tests, via, thing_new); count_bound_2 = search rules }
 
 pub returns-else-mark_at-eq0 : goal.returns-else-mark_at-eq0
-returns-else-mark_at-eq0 c = (search (tests, via, thing_known), omega arith)
+returns-else-mark_at-eq0 c = record { result_after = search (tests, via, thing_known); count_bound_2 = omega arith }

@@ -4,7 +4,7 @@ use Rattle.run.proofs.Stages.{goes_not, goes_other}
 use Rattle.run.proofs.goes_on.Goals as goal
 
 pub returns-in-Done : goal.returns-in-Done
-returns-in-Done c = goes_not _ c.enum_told-1.given.1
+returns-in-Done c = goes_not _ c.in-Done.is
 
 pub returns-in_default : goal.returns-in_default
-returns-in_default c = goes_other _ c.in_default.keys2
+returns-in_default c = goes_other _ c.in_default.is

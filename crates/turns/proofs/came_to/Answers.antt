@@ -37,4 +37,4 @@ returns-in-SetClose c = search (rules, came_kind)
 pub returns-in_default : goal.returns-in_default
 unfolding came_to pick every both
 returns-in_default c =     none_is _
-    (kind_among _ (λ n. is_none (came_to n c.args.h c.args.before c.args.after)) (0 ∷ 1 ∷ 2 ∷ 4 ∷ 5 ∷ 6 ∷ 8 ∷ 10 ∷ 11 ∷ 12 ∷ 13 ∷ 14 ∷ 16 ∷ 17 ∷ 19 ∷ 21 ∷ 22 ∷ 23 ∷ []) c.in_default.keys7 refl)
+    (kind_among _ (λ n. is_none (came_to n c.args.h c.args.before c.args.after)) (0 ∷ 1 ∷ 2 ∷ 4 ∷ 5 ∷ 6 ∷ 8 ∷ 10 ∷ 11 ∷ 12 ∷ 13 ∷ 14 ∷ 16 ∷ 17 ∷ 19 ∷ 21 ∷ 22 ∷ 23 ∷ []) c.in_default.is refl)

@@ -6,7 +6,7 @@ use borrow.Author.Rules.{rules}
 use Rattle.turns.proofs.move_here.Goals as goal
 
 pub move_turn-requires : goal.move_turn-requires
-move_turn-requires c = (search rules, (search rules, (search rules, (search (rules, via), search rules))))
+move_turn-requires c = record { sized = search rules; worker_words_in_bounds = search rules; h_value = search rules; i_value = search (rules, via); bound = search rules }
 
 pub returns-then-move_fits : goal.returns-then-move_fits
 returns-then-move_fits c = search (rules, here_move)

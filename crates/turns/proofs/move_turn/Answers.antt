@@ -5,7 +5,7 @@ use borrow.Author.Rules.{rules}
 use Rattle.turns.proofs.move_turn.Goals as goal
 
 pub load-v-requires : goal.load-v-requires
-load-v-requires c = (search rules, (search (rules, few_moves), search (rules, few_nodes)))
+load-v-requires c = record { move_words_in_bounds = search rules; p_bound = (search (rules, few_moves), search (rules, few_nodes)) }
 
 pub turn-t-requires : goal.turn-t-requires
 turn-t-requires c = search (rules, loaded_count, loaded_least)

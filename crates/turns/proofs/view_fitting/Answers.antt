@@ -9,7 +9,7 @@ pub search_fits-requires : goal.search_fits-requires
 search_fits-requires c = search (rules, viewing_low, viewing_high)
 
 pub returns-then-search_fits : goal.returns-then-search_fits
-returns-then-search_fits c = (search (rules, view_open), search rules)
+returns-then-search_fits c = record { workers_after = search (rules, view_open); nodes_taken_value = search rules }
 
 pub returns-else-search_fits : goal.returns-else-search_fits
-returns-else-search_fits c = (search (rules, view_six), search (rules, done_counts))
+returns-else-search_fits c = record { workers_after = search (rules, view_six); nodes_taken_value = search (rules, done_counts) }

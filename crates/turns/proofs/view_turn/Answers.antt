@@ -5,7 +5,7 @@ use borrow.Author.Rules.{rules}
 use Rattle.turns.proofs.view_turn.Goals as goal
 
 pub returns-then-n-eq6 : goal.returns-then-n-eq6
-returns-then-n-eq6 c = (search (rules, view_refused), search (rules, done_counts))
+returns-then-n-eq6 c = record { workers_after = search (rules, view_refused); nodes_taken_value = search (rules, done_counts) }
 
 pub returns-else-n-eq6 : goal.returns-else-n-eq6
-returns-else-n-eq6 c = (search (rules, view_done), search (rules, done_counts))
+returns-else-n-eq6 c = record { workers_after = search (rules, view_done); nodes_taken_value = search (rules, done_counts) }

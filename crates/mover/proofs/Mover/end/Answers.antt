@@ -5,4 +5,4 @@ use borrow.Author.Rules.{rules}
 use Rattle.mover.proofs.Mover.end.Goals as goal
 
 pub returns : goal.returns
-returns c = (search (rules, end_way), search rules)
+returns c = record { value = search (rules, end_way); moves_value = search rules }

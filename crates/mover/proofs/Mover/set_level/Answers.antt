@@ -10,7 +10,7 @@ use borrow.Author.Rules.{rules}
 use Rattle.mover.proofs.Mover.set_level.Goals as goal
 
 pub take_level-g-requires : goal.take_level-g-requires
-take_level-g-requires c = (search rules, (search rules, (search (rules, takes_held_level), search (rules, takes_deep))))
+take_level-g-requires c = record { digit_width = search rules; taken_le_most_levels = search rules; held_le_most_levels = search (rules, takes_held_level); level_bound = search (rules, takes_deep) }
 
 pub overflow_add-g : goal.overflow_add-g
 overflow_add-g c = search (rules, taken-fits, takes_held_level)

@@ -65,4 +65,4 @@ returns-in-MoveEnd c = search (rules, turn_kind)
 pub returns-in_default : goal.returns-in_default
 unfolding every both
 returns-in_default c =     turn_other _ _ _ _ (search rules)
-    (kind_among _ (λ n. not (both (leb 11 n) (leb n 22))) (0 ∷ 1 ∷ 2 ∷ 3 ∷ 4 ∷ 5 ∷ 6 ∷ 7 ∷ 8 ∷ 9 ∷ 10 ∷ 23 ∷ []) c.in_default.keys13 refl)
+    (kind_among _ (λ n. not (both (leb 11 n) (leb n 22))) (0 ∷ 1 ∷ 2 ∷ 3 ∷ 4 ∷ 5 ∷ 6 ∷ 7 ∷ 8 ∷ 9 ∷ 10 ∷ 23 ∷ []) c.in_default.is refl)

@@ -59,4 +59,4 @@ returns-in-Follow c = search (rules, turn_kind)
 pub returns-in_default : goal.returns-in_default
 unfolding every both
 returns-in_default c =     turn_other _ _ _ _ _ _ (search rules)
-    (kind_among _ (λ n. not (both (leb 1 n) (leb n 10))) (0 ∷ 11 ∷ 12 ∷ 13 ∷ 14 ∷ 15 ∷ 16 ∷ 17 ∷ 18 ∷ 19 ∷ 20 ∷ 21 ∷ 22 ∷ 23 ∷ []) c.in_default.keys11 refl)
+    (kind_among _ (λ n. not (both (leb 1 n) (leb n 10))) (0 ∷ 11 ∷ 12 ∷ 13 ∷ 14 ∷ 15 ∷ 16 ∷ 17 ∷ 18 ∷ 19 ∷ 20 ∷ 21 ∷ 22 ∷ 23 ∷ []) c.in_default.is refl)

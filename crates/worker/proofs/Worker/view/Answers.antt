@@ -35,5 +35,5 @@ returns-in-Follow c = search (rules, turn_kind)
 pub returns-in_default : goal.returns-in_default
 unfolding every both viewing pick
 returns-in_default c =     view_other _ _ _
-    (kind_among _ (λ n. not (viewing n)) (0 ∷ 2 ∷ 3 ∷ 6 ∷ 7 ∷ 8 ∷ 9 ∷ 11 ∷ 12 ∷ 13 ∷ 14 ∷ 15 ∷ 16 ∷ 17 ∷ 18 ∷ 19 ∷ 20 ∷ 21 ∷ 22 ∷ 23 ∷ []) c.in_default.keys5 refl)
+    (kind_among _ (λ n. not (viewing n)) (0 ∷ 2 ∷ 3 ∷ 6 ∷ 7 ∷ 8 ∷ 9 ∷ 11 ∷ 12 ∷ 13 ∷ 14 ∷ 15 ∷ 16 ∷ 17 ∷ 18 ∷ 19 ∷ 20 ∷ 21 ∷ 22 ∷ 23 ∷ []) c.in_default.is refl)
     c.requires.kind_value
