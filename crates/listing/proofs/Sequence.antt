@@ -297,7 +297,7 @@ module _ {w : ℕ} (width : Width w) (s : Settings) (a : Areas) (z : (opening w 
     told : {y : State} {place : ℕ} (steps : List Step) → On y → place ≤ end_place → Asked y place steps → Told w k y place steps
     unfolding place_after events_in state_after
     told [] o h A = none
-    told (event e ∷ rest) o h A = happened (shows_later e o) (told rest (later e o) h (λ before m more q. A (event e ∷ before) m more (ap (λ l. event e ∷ l) q)))
+    told {y = y} (event e ∷ rest) o h A = happened (shows_later e o) (told {y = after (happens w e y)} rest (later e o) h (λ before m more q. A (event e ∷ before) m more (ap (λ l. event e ∷ l) q)))
     told {y} {place} (next j m ∷ rest) o h A = by (ℕ_discrete j k) (λ pl i B. told rest o i B)
       where
         by : Dec (j ≡ k) → ((pl : ℕ) → pl ≤ end_place → Asked y pl rest → Told w k y pl rest) → Told w k y place (next j m ∷ rest)

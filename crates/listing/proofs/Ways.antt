@@ -84,7 +84,7 @@ module _ (w : ℕ) (s : Settings) (nodes levels : List ℕ) (place : ℕ) {q : �
     unfolding answered
     next_answer x e S l =
         rw e
-        (pick-both (Next w s (memory nodes levels) place) x.dangling (λ f. dangling (sym a ∙ z) l (S.Only-then f))
+        (pick-both (Next w s (memory nodes levels) place) x.dangling (λ f. dangling (sym a ∙ z) l (S.only_then f))
         (λ f.
         pick-both (Next w s (memory nodes levels) place) (leb x.pixel max_pixel)
         (λ h. given (sym a ∙ z) (S.not_dangling f) (S.smallest f (leb-true _ _ h)))

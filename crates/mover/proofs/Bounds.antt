@@ -14,7 +14,7 @@ use Rattle.mover.specs.declared.Inner.{Inner}
 use Rattle.mover.specs.declared.Mover.{Mover}
 use Rattle.mover.specs.declared.Moved.{Moved}
 use Rattle.mover.specs.Cut.{stays, refuses, forget_in, word_asked, word_head, word_inner, set_done, begun_cut, ends}
-use Rattle.mover.specs.Moved.{Counts, as_many, one_more_lem, one_less}
+use Rattle.mover.specs.Moved.{Counts, as_many, one_move_more, one_less}
 use Rattle.mover.proofs.Asked.{room_most}
 
 -- as many Moves
@@ -58,7 +58,7 @@ module _ (v : Mover) (s : Settings) where
   bounded_done = record { counts = as_many refl; most = λ h. omega arith }
 
   pub bounded_begun : Bounded v (begun_cut v s)
-  bounded_begun = record { counts = one_more_lem refl; most = λ h. omega arith }
+  bounded_begun = record { counts = one_move_more refl; most = λ h. omega arith }
 
   -- a word read or met by a failed exchange
   pub bounded_word : (q : Bool) (h : Head) {r : Moved} → r ≡ pick q (stays v s h v.inner) (refuses v s) → Bounded v r

@@ -23,7 +23,7 @@ use Rattle.rules.specs.Heads.{last_node}
 use Rattle.mover.specs.declared.Inner.{Inner}
 use Rattle.mover.specs.declared.Mover.{Mover}
 use Rattle.mover.specs.Words.{last_at, inner_at, outer_at, mover_at, Keeps, head_to, last_to, inner_on, inner_to, mover_to}
-use Rattle.mover.specs.Moved.{outer_node, inner_of, Around, move_after, list_after, Counts, as_many, one_more_lem, one_less}
+use Rattle.mover.specs.Moved.{outer_node, inner_of, Around, move_after, list_after, Counts, as_many, one_move_more, one_less}
 
 -- the ways through loading and storing
 pub last_way : (l : List ℕ) (p : ℕ) {r i c : ℕ} → r ≡ get_or l (p + 3 + i) 0 → i ≡ c - 1 → c ≡ get_or l (p + 2) 0 → r ≡ last_at l p
@@ -290,7 +290,7 @@ module _ (w : ℕ) (l : List ℕ) (i : ℕ) (v : Mover) where
       let g : suc n - 1 ≡ n = omega arith in
       let q : suc n ≡ moves_at l i = omega arith in
       simp (f, g, eq-eqb (suc n) (moves_at l i) q, head_to_lem v.head (suc n) i l k, store_changed w i v.head v.inner l n c)
-  store_is k c o (one_more_lem e) =
+  store_is k c o (one_move_more e) =
       let n : ℕ = moves_at l i in
       let f : v.moves ≡ suc n = omega arith in
       let g : suc n - 1 ≡ n = omega arith in

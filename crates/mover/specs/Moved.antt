@@ -48,7 +48,7 @@ list_after v v' a os =
 
 pub data Counts (v v' : Mover) : Type 0 where
   as_many : v'.moves ≡ v.moves → Counts v v'
-  one_more_lem : v'.moves ≡ v.moves + 1 → Counts v v'
+  one_move_more : v'.moves ≡ v.moves + 1 → Counts v v'
   one_less : v'.moves + 1 ≡ v.moves → Counts v v'
 
 abbrev pub moved : Mover → Moved → Move → List Move → Memory → Tried

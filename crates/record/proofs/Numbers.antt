@@ -2,24 +2,20 @@
 -- Relies on words for a rule of all entries of a table.
 use mathlib.Core.Path.{◌≡◌, refl, sym, ap, ◌∙◌}
 use mathlib.Core.Bool.{Bool, true, false}
-use mathlib.Core.Logic.{inl, inr}
 use mathlib.Core.List.{List, [], ◌∷◌}
 use Prim.Native.Nat.{ℕ, zero, suc, ◌≤◌}
 use native.Mathlib.Omega.{arith}
 use lib.Dec.{leb, eqb}
 use lib.ListN.{get_or-eq_default, get_or, replicate}
 use borrow.Author.Tests.{eqb-true, ne_eqb, leb-true, leb-false}
-use denote.Enum.Declared.{tag_of}
-use types.Run.{OneOf}
-use Rattle.words.specs.Choice.{pick, both, every}
-use Rattle.words.proofs.Choice.{both_left, both_right}
-use Rattle.words.proofs.Table.{at}
+use Rattle.words.specs.Choice.{pick, both}
+use Rattle.words.proofs.Choice.{pick_false}
+use Rattle.words.proofs.Table.{every_place, at}
 use Rattle.record.specs.declared.Kind.{Kind}
 use Rattle.record.specs.declared.Kind.TheVariants.{Idle, Look, Take, Put, Read, Tail, TakeTail, Append, Level, Close, Follow, ChainHead, ChainNext, SetNext, SetLook, SetPut, SetRead, SetTail, SetAppend, SetLevel, SetClose, SetFollow, MoveEnd, Unknown}
 use Rattle.record.specs.declared.Answer.TheVariants.{Nothing, New, Found, Full, Absent}
 use Rattle.record.specs.Kinds.{kinds, kind_of, kind_no, answer_of}
 use Rattle.record.specs.Fits.{viewing, viewer_told}
-use Rattle.record.specs.contracts.Kind.{the_type}
 
 -- a kind's number gives the kind again
 pub kind_back : (k : Kind) → kind_of (kind_no k) ≡ k
@@ -95,41 +91,52 @@ told_rest a p q r = simp (ne_eqb a 0 p, ne_eqb a 2 q, ne_eqb a 5 r)
 pub past : {k n : ℕ} → k ≤ n → (n ≡ k → ⊥) → suc k ≤ n
 past h e = omega arith
 
--- a kind's place among the variants is its number
-kind_place : (k : Kind) → tag_of the_type k ≡ kind_no k
+-- no kind has a number past 23
+number_most : (k : Kind) → leb (kind_no k) 23 ≡ true
 unfolding kind_no
-kind_place Idle = refl
-kind_place Look = refl
-kind_place Take = refl
-kind_place Put = refl
-kind_place Read = refl
-kind_place Tail = refl
-kind_place TakeTail = refl
-kind_place Append = refl
-kind_place Level = refl
-kind_place Close = refl
-kind_place Follow = refl
-kind_place ChainHead = refl
-kind_place ChainNext = refl
-kind_place SetNext = refl
-kind_place SetLook = refl
-kind_place SetPut = refl
-kind_place SetRead = refl
-kind_place SetTail = refl
-kind_place SetAppend = refl
-kind_place SetLevel = refl
-kind_place SetClose = refl
-kind_place SetFollow = refl
-kind_place MoveEnd = refl
-kind_place Unknown = refl
+number_most Idle = refl
+number_most Look = refl
+number_most Take = refl
+number_most Put = refl
+number_most Read = refl
+number_most Tail = refl
+number_most TakeTail = refl
+number_most Append = refl
+number_most Level = refl
+number_most Close = refl
+number_most Follow = refl
+number_most ChainHead = refl
+number_most ChainNext = refl
+number_most SetNext = refl
+number_most SetLook = refl
+number_most SetPut = refl
+number_most SetRead = refl
+number_most SetTail = refl
+number_most SetAppend = refl
+number_most SetLevel = refl
+number_most SetClose = refl
+number_most SetFollow = refl
+number_most MoveEnd = refl
+number_most Unknown = refl
 
--- what holds of each number among which a `match` knows a kind to be holds of the kind's number
-among : (f : ℕ → Bool) (ks : List ℕ) (n : ℕ) → OneOf ks n → every f ks ≡ true → f n ≡ true
-unfolding every
-among f [] n h e = absurd h
-among f (k ∷ []) n h e = ap f h ∙ both_left _ _ e
-among f (k ∷ j ∷ ks) n (inl h) e = ap f h ∙ both_left _ _ e
-among f (k ∷ j ∷ ks) n (inr h) e = among f (j ∷ ks) n h (both_right (f k) _ e)
+-- whether a number is one of several
+abbrev one_of : ℕ → List ℕ → Bool
+one_of n [] = false
+one_of n (m ∷ ms) = pick (eqb n m) true (one_of n ms)
 
-pub kind_among : (k : Kind) (f : ℕ → Bool) (ks : List ℕ) → OneOf ks (tag_of the_type k) → every f ks ≡ true → f (kind_no k) ≡ true
-kind_among k f ks h e = ap f (sym (kind_place k)) ∙ among f ks _ h e
+-- a kind is none of those with these numbers
+abbrev pub NoneOf : Kind → List ℕ → Type 0
+NoneOf k [] = Unit
+NoneOf k (n ∷ ns) = (k ≡ kind_of n → ⊥) × NoneOf k ns
+
+not_one_of : (k : Kind) (ns : List ℕ) → NoneOf k ns → one_of (kind_no k) ns ≡ false
+not_one_of k [] h = refl
+not_one_of k (n ∷ ns) h =
+    let d : eqb (kind_no k) n ≡ false = ne_eqb _ _ (λ e. h.0 (sym (kind_back k) ∙ ap kind_of e)) in
+    pick_false _ _ _ d ∙ not_one_of k ns h.1
+
+-- what holds of every number but these holds of the number of a kind that a `match` knows to be none of them
+pub kind_but : (k : Kind) (f : ℕ → Bool) (ns : List ℕ) → NoneOf k ns → every_place (λ n x. pick (one_of n ns) true (f n)) 0 (replicate 24 0) ≡ true → f (kind_no k) ≡ true
+kind_but k f ns h e =
+    sym (pick_false _ _ _ (not_one_of k ns h))
+    ∙ at (λ n x. pick (one_of n ns) true (f n)) (replicate 24 0) e (kind_no k) (let l = leb-true _ _ (number_most k) in omega arith)

@@ -247,7 +247,7 @@ open_calls w width s a z es i h =
     rw (opening_done w s a z)
     record {
       open_told = (λ b. sym l ∙ busy_tells _ b, λ t. open_busy _ (l ∙ t));
-      pixel_told_lem = sequence_pixel es _ A i h ∙ ap (pixel_told i (history w es _)) (ap (λ (r : Record). r.head.pixel) o);
+      tells_pixel = sequence_pixel es _ A i h ∙ ap (pixel_told i (history w es _)) (ap (λ (r : Record). r.head.pixel) o);
     }
 
 -- document 02's tables, each at the width that its settings give

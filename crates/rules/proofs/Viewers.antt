@@ -50,11 +50,11 @@ module _ (w : ℕ) (s : Settings) (h : Head) (m : Memory) where
 
   viewed_says : (h' : Head) → Says (searching.viewed true s h' m)
   unfolding searching.viewed
-  viewed_says h' = pick-both Says _ (λ e. viewers.absent) (λ e. viewers.goes_on_lem)
+  viewed_says h' = pick-both Says _ (λ e. viewers.absent) (λ e. viewers.stays_open)
 
   met_says : (c g word : ℕ) → Says (searching.met s h c g word m)
   unfolding searching.met searching.met_node
-  met_says c g word = pick-both Says (is_node word) (λ e. pick-both Says (eqb _ h.pixel) (λ q. viewers.found _) (λ q. viewers.goes_on_lem)) (λ e. viewers.goes_on_lem)
+  met_says c g word = pick-both Says (is_node word) (λ e. pick-both Says (eqb _ h.pixel) (λ q. viewers.found _) (λ q. viewers.stays_open)) (λ e. viewers.stays_open)
 
   viewer_says : {k : Kind} (ms : List Move) → Viewing k → Says (act_by k w true s h ms m)
   unfolding act_by searching.look searching.tail searching.read searching.read_word searching.follow searching.follow_word

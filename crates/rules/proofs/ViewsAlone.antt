@@ -75,7 +75,7 @@ module _ (w i : ℕ) (s₀ : Settings) (here : i < s₀.workers) (view : views s
       mine c = upd_same ws i c
 
       on : Runs n → (T : TurnOk w s₀ W ws i (act w (views x.settings i) x.settings (record_of x.areas i) (memory_of x.areas))) → r ≡ taken (act w (views x.settings i) x.settings (record_of x.areas i) (memory_of x.areas)) i x.areas.workers → {v : Answer} → ToViewer v → r.reply.answer ≡ v → Rowing W T.world (ws i) T.worker v → ViewsAlone w p x₀ (run_alone w (suc n) i x)
-      on f T e viewers.goes_on_lem a (goes E b z q y) =
+      on f T e viewers.stays_open a (goes E b z q y) =
           let F' = fine_turned F i here busy T e in
           let M = rw (mine T.worker) at (F'.records i here) in
           let l = (T.falls z).less in

@@ -30,7 +30,7 @@ pub record OpenCall (w : ℕ) (x : State) (es : List Event) (i : ℕ) : Type 0 w
   pub open_told : Iff (question7 (record_of (state_after w es x).areas i) ≡ false) (told i (history w es x) Nothing ≡ Open)
   -- "A call's row is printed .. with the call's pixel."
   -- excludes: a machine whose record has another pixel than its start's, amid a Move or after it
-  pub pixel_told_lem : (record_of (state_after w es x).areas i).head.pixel ≡ pixel_told i (history w es x) 0
+  pub tells_pixel : (record_of (state_after w es x).areas i).head.pixel ≡ pixel_told i (history w es x) 0
 
 -- for every carried out opening, every sequence of starts and turns, and every worker of the table
 abbrev pub OpenCalls : ℕ → Settings → Type 0

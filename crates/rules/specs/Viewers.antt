@@ -13,7 +13,7 @@ use Rattle.rules.specs.Calls.{Event, state_after}
 -- the answers to a viewer: a refusal has none
 pub data ToViewer : Answer → Type 0 where
   refused : ToViewer Nothing
-  goes_on_lem : ToViewer Open
+  stays_open : ToViewer Open
   found : (n : ℕ) → ToViewer (Found n)
   absent : ToViewer Absent
 

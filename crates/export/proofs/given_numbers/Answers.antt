@@ -5,11 +5,11 @@ use Rattle.export.proofs.given_numbers.Goals as goal
 
 pub returns-in-Refused : goal.returns-in-Refused
 unfolding given_numbers
-returns-in-Refused c = simp c.a-1.given.1
+returns-in-Refused c = simp c.in-Refused.is
 
 pub returns-in-Pixel : goal.returns-in-Pixel
 unfolding given_numbers
-returns-in-Pixel c = simp c.a-in-Pixel-1.given.1
+returns-in-Pixel c = simp c.in-Pixel.is
 
 pub returns-in-End : goal.returns-in-End
 unfolding given_numbers

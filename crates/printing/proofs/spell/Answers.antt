@@ -16,22 +16,22 @@ returns-in-Header c = told c.in-Header.is c.put_bytes.ensures.1
 
 pub returns-in-New : goal.returns-in-New
 unfolding bytes_of ascii
-returns-in-New c = told c.p-1.given.1 c.put_row.ensures
+returns-in-New c = told c.in-New.is c.put_row.ensures
 
 pub returns-in-Found : goal.returns-in-Found
 unfolding bytes_of ascii
-returns-in-Found c = told c.p-in-Found-1.given.1 c.put_row-in-Found.ensures
+returns-in-Found c = told c.in-Found.is c.put_row-in-Found.ensures
 
 pub returns-in-Full : goal.returns-in-Full
-returns-in-Full c = told c.p-in-Full-1.given.1 c.put_full.ensures
+returns-in-Full c = told c.in-Full.is c.put_full.ensures
 
 pub returns-in-Absent : goal.returns-in-Absent
-returns-in-Absent c = told c.p-in-Absent-1.given.1 c.put_absent.ensures
+returns-in-Absent c = told c.in-Absent.is c.put_absent.ensures
 
 pub returns-in-Refused : goal.returns-in-Refused
 unfolding bytes_of ascii
-returns-in-Refused c = told c.p-in-Refused-1.given.1 c.put_pair.ensures
+returns-in-Refused c = told c.in-Refused.is c.put_pair.ensures
 
 pub returns-in-End : goal.returns-in-End
 unfolding bytes_of ascii
-returns-in-End c = told c.p-in-End-1.given.1 c.put_pair-in-End.ensures
+returns-in-End c = told c.in-End.is c.put_pair-in-End.ensures

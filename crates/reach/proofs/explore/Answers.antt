@@ -11,7 +11,7 @@ pub loop-s-init : goal.loop-s-init
 loop-s-init c = (omega arith, search rules, search rules, search (rules, rounds-none))
 
 pub expand-f-requires : goal.expand-f-requires
-expand-f-requires c = (search rules, search (rules, count_small))
+expand-f-requires c = record { digit_width = search rules; fits = search rules; count_bound = search (rules, count_small) }
 
 pub loop-s-smaller : goal.loop-s-smaller
 loop-s-smaller c = search (rules, via, round_less)

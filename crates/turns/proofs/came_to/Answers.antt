@@ -3,8 +3,8 @@
 use mathlib.Core.Path.{refl}
 use mathlib.Core.List.{[], ◌∷◌}
 use Rattle.words.specs.Choice.{pick, both, every}
-use Rattle.record.specs.Kinds.{kind_no}
-use Rattle.record.proofs.Numbers.{kind_among}
+use Rattle.record.specs.Kinds.{kind_no, kind_of, kinds}
+use Rattle.record.proofs.Numbers.{kind_but}
 use Rattle.turns.specs.Cut.{came_to}
 use Rattle.turns.proofs.Exchanged.{is_none, none_is, came_kind}
 use borrow.Author.Rules.{rules}
@@ -35,6 +35,7 @@ unfolding came_to kind_no pick
 returns-in-SetClose c = search (rules, came_kind)
 
 pub returns-in_default : goal.returns-in_default
-unfolding came_to pick every both
-returns-in_default c =     none_is _
-    (kind_among _ (λ n. is_none (came_to n c.args.h c.args.before c.args.after)) (0 ∷ 1 ∷ 2 ∷ 4 ∷ 5 ∷ 6 ∷ 8 ∷ 10 ∷ 11 ∷ 12 ∷ 13 ∷ 14 ∷ 16 ∷ 17 ∷ 19 ∷ 21 ∷ 22 ∷ 23 ∷ []) c.in_default.is refl)
+unfolding kind_of kinds pick came_to every both
+returns-in_default c =
+    none_is _
+    (kind_but _ (λ n. is_none (came_to n c.args.h c.args.before c.args.after)) (3 ∷ 7 ∷ 9 ∷ 15 ∷ 18 ∷ 20 ∷ []) (c.in_default.not-Put, (c.in_default.not-Append, (c.in_default.not-Close, (c.in_default.not-SetPut, (c.in_default.not-SetAppend, (c.in_default.not-SetClose, tt)))))) refl)

@@ -2,11 +2,11 @@
 -- Relies on Turns, on record for a kind known among several.
 use Rattle.mover.proofs.Turns.{turn_kind, turn_other}
 use Rattle.mover.specs.Cut.{is_moving}
-use Rattle.record.proofs.Numbers.{kind_among}
-use Rattle.record.specs.Kinds.{kind_no}
+use Rattle.record.proofs.Numbers.{kind_but}
+use Rattle.record.specs.Kinds.{kind_no, kind_of, kinds}
 use Rattle.rules.specs.Acts.{act_by, inner, outer}
 use Rattle.rules.specs.Asked.{reads_by}
-use Rattle.words.specs.Choice.{both, every}
+use Rattle.words.specs.Choice.{both, every, pick}
 use lib.Dec.{leb}
 use mathlib.Core.Bool.{not}
 use mathlib.Core.List.{[], ◌∷◌}
@@ -63,6 +63,7 @@ unfolding is_moving kind_no both reads_by act_by inner outer
 returns-in-MoveEnd c = search (rules, turn_kind)
 
 pub returns-in_default : goal.returns-in_default
-unfolding every both
-returns-in_default c =     turn_other _ _ _ _ (search rules)
-    (kind_among _ (λ n. not (both (leb 11 n) (leb n 22))) (0 ∷ 1 ∷ 2 ∷ 3 ∷ 4 ∷ 5 ∷ 6 ∷ 7 ∷ 8 ∷ 9 ∷ 10 ∷ 23 ∷ []) c.in_default.is refl)
+unfolding kind_of kinds pick every both
+returns-in_default c =
+    turn_other _ _ _ _ (search rules)
+    (kind_but _ (λ n. not (both (leb 11 n) (leb n 22))) (11 ∷ 12 ∷ 13 ∷ 14 ∷ 15 ∷ 16 ∷ 17 ∷ 18 ∷ 19 ∷ 20 ∷ 21 ∷ 22 ∷ []) (c.in_default.not-ChainHead, (c.in_default.not-ChainNext, (c.in_default.not-SetNext, (c.in_default.not-SetLook, (c.in_default.not-SetPut, (c.in_default.not-SetRead, (c.in_default.not-SetTail, (c.in_default.not-SetAppend, (c.in_default.not-SetLevel, (c.in_default.not-SetClose, (c.in_default.not-SetFollow, (c.in_default.not-MoveEnd, tt)))))))))))) refl)

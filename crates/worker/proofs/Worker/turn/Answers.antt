@@ -1,7 +1,7 @@
 -- `worker::Worker::turn` meets its contract.
 -- Relies on Turns, on record for a kind known among several.
-use Rattle.record.proofs.Numbers.{kind_among}
-use Rattle.record.specs.Kinds.{kind_no}
+use Rattle.record.proofs.Numbers.{kind_but}
+use Rattle.record.specs.Kinds.{kind_no, kind_of, kinds}
 use Rattle.rules.specs.Acts.{act_by}
 use Rattle.rules.specs.Searching.{takes_node}
 use Rattle.rules.specs.Asked.{reads_by}
@@ -57,6 +57,7 @@ unfolding search_tried is_searching kind_no both reads_by takes_node act_by unle
 returns-in-Follow c = search (rules, turn_kind)
 
 pub returns-in_default : goal.returns-in_default
-unfolding every both
-returns-in_default c =     turn_other _ _ _ _ _ _ (search rules)
-    (kind_among _ (λ n. not (both (leb 1 n) (leb n 10))) (0 ∷ 11 ∷ 12 ∷ 13 ∷ 14 ∷ 15 ∷ 16 ∷ 17 ∷ 18 ∷ 19 ∷ 20 ∷ 21 ∷ 22 ∷ 23 ∷ []) c.in_default.is refl)
+unfolding kind_of kinds pick every both
+returns-in_default c =
+    turn_other _ _ _ _ _ _ (search rules)
+    (kind_but _ (λ n. not (both (leb 1 n) (leb n 10))) (1 ∷ 2 ∷ 3 ∷ 4 ∷ 5 ∷ 6 ∷ 7 ∷ 8 ∷ 9 ∷ 10 ∷ []) (c.in_default.not-Look, (c.in_default.not-Take, (c.in_default.not-Put, (c.in_default.not-Read, (c.in_default.not-Tail, (c.in_default.not-TakeTail, (c.in_default.not-Append, (c.in_default.not-Level, (c.in_default.not-Close, (c.in_default.not-Follow, tt)))))))))) refl)

@@ -1,7 +1,7 @@
 -- `worker::Worker::view` meets its contract.
 -- Relies on Turns, on record for a kind known among several.
-use Rattle.record.proofs.Numbers.{kind_among}
-use Rattle.record.specs.Kinds.{kind_no}
+use Rattle.record.proofs.Numbers.{kind_but}
+use Rattle.record.specs.Kinds.{kind_no, kind_of, kinds}
 use Rattle.record.specs.Fits.{viewing}
 use Rattle.rules.specs.Acts.{act_by}
 use Rattle.rules.specs.Searching.{takes_node}
@@ -33,7 +33,8 @@ unfolding search_tried is_searching kind_no both reads_by takes_node act_by unle
 returns-in-Follow c = search (rules, turn_kind)
 
 pub returns-in_default : goal.returns-in_default
-unfolding every both viewing pick
-returns-in_default c =     view_other _ _ _
-    (kind_among _ (λ n. not (viewing n)) (0 ∷ 2 ∷ 3 ∷ 6 ∷ 7 ∷ 8 ∷ 9 ∷ 11 ∷ 12 ∷ 13 ∷ 14 ∷ 15 ∷ 16 ∷ 17 ∷ 18 ∷ 19 ∷ 20 ∷ 21 ∷ 22 ∷ 23 ∷ []) c.in_default.is refl)
+unfolding kind_of kinds pick every both viewing
+returns-in_default c =
+    view_other _ _ _
+    (kind_but _ (λ n. not (viewing n)) (1 ∷ 4 ∷ 5 ∷ 10 ∷ []) (c.in_default.not-Look, (c.in_default.not-Read, (c.in_default.not-Tail, (c.in_default.not-Follow, tt)))) refl)
     c.requires.kind_value
