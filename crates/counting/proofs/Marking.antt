@@ -83,7 +83,7 @@ marks_of marks (suc k) =
 -- what a count gives by the search's answer and its marks
 module _ {w : ℕ} {s : Settings} {m : Memory} {a : Bool} {marks : List ℕ} (X : Marked w s m a marks) (F : Fits s things) (z : first_no (questions_of w s m) ≡ 0) where
   pub marked_six : a ≡ true → Counted w s m (count 6 0)
-  marked_six e = dangling z (X.Only-then e)
+  marked_six e = dangling z (X.only_then e)
 
   pub marked_count : a ≡ false → Counted w s m (count 0 (marked_among marks s.nodes_taken))
   marked_count e = counted z (not_dangling X e) reached
