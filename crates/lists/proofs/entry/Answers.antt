@@ -22,7 +22,8 @@ pub returns-then-idle_at : goal.returns-then-idle_at
 returns-then-idle_at c = search (rules, entry_idle)
 
 pub returns-then-views_of : goal.returns-then-views_of
-returns-then-views_of c =     let p = c.requires in
+returns-then-views_of c =
+    let p = c.requires in
     let a : _ = views_so _ _ c.views_of-else-idle_at.ensures c.if-views_of.true in
     let o : _ = not-idle _ _ c.idle_at.ensures c.if-idle_at.false in
-    entry_open _ _ _ _ _ _ _ p.1.1.0 p.0 p.1.1.1.0 p.1.1.1.1 c.tallied.ensures c.view_here-d.ensures.workers_after c.with_counts-n.ensures refl a o
+    entry_open _ _ _ _ _ _ _ p.number_value p.le_left p.workers_value p.i_lt_workers c.tallied.ensures c.view_here-d.ensures.workers_after c.with_counts-n.ensures refl a o
