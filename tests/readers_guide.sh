@@ -5,7 +5,7 @@ set -eu
 cd "$(dirname "$0")/.."
 guide=docs/READERS_GUIDE.md
 bad=0
-names=$(grep -o '`[a-z]*\.[A-Z][A-Za-z]*\.[A-Za-z0-9′]*`' "$guide" | tr -d '`' | sort -u)
+names=$(grep -o "\`[a-z]*\.[A-Z][A-Za-z]*\.[A-Za-z0-9_']*\`" "$guide" | tr -d '\`' | sort -u)
 for n in $names; do
     crate=${n%%.*}; rest=${n#*.}; module=${rest%%.*}; name=${rest#*.}
     file=crates/$crate/specs/$module.antt

@@ -4,9 +4,8 @@
 set -eu
 cd "$(dirname "$0")/.."
 sh tests/readers_guide.sh
-# The tests need the library and the program: they are built from the records of the check. A record that does not match fails here. rt ci trusts none.
+# The tests need the library and the program.
 sh tools/build.sh
-sh tests/records.sh
 python3 tests/readme.py
 out=target/tests
 mkdir -p "$out"
@@ -27,4 +26,4 @@ gcc -std=c99 -O2 -Wall -Wextra -Werror tests/row.c target/staticlib/libexport.a 
 python3 tests/reads.py
 python3 tests/shortcuts.py
 sh tests/compare.sh
-exec rt ci
+sh tests/proofs.sh

@@ -1,0 +1,16 @@
+#!/bin/sh
+# Every crate from nothing: rt ci, which ends in its line 'N passed, M failed'. Fails where rt ci fails, and where it could not read a must-fail edit, which it lets pass.
+set -eu
+cd "$(dirname "$0")/.."
+mkdir -p target
+log=target/ci.log
+status=0
+{ rt ci 2>&1 || echo "$?" >target/ci.status; } | tee "$log" | sed '$d'
+if [ -f target/ci.status ]; then status=$(cat target/ci.status); rm -f target/ci.status; fi
+# "rt: ok" counts the edits, as in "must-fail edits: 126 refused, 0 bad"
+if grep '^rt: ok' "$log" | grep -qE ', [1-9][0-9]* bad'; then
+    echo "proofs: a must-fail edit could not be read"
+    status=1
+fi
+tail -n 1 "$log"
+exit "$status"
