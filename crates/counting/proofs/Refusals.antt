@@ -1,7 +1,6 @@
 -- Demand 1 of a count, proved: each number in exactly its own case.
 -- Relies on the laws of the first no.
-use mathlib.Core.Path.{◌≡◌, refl, sym, ◌∙◌}
-use mathlib.Core.Logic.{◌≢◌}
+use mathlib.Core.Path.{refl, sym, ◌∙◌}
 use native.Mathlib.Omega.{arith}
 use Rattle.rules.proofs.Questions.{first_no_lem, gives-first_no}
 use Rattle.reach.proofs.Reading.{all-answered, not-answered, not-six}

@@ -10,7 +10,7 @@ use native.Mathlib.Omega.{arith}
 use lib.ListN.{length, length-append}
 use Rattle.words.specs.Choice.{first_no}
 use Rattle.settings.specs.declared.Settings.{Settings}
-use Rattle.areas.specs.Memory.{Areas, Memory}
+use Rattle.areas.specs.Memory.{Memory}
 use Rattle.trie.proofs.Lists.{◌∈◌, NoDup, nodup_snoc, nodup_le}
 use Rattle.rules.specs.Operations.{AtWidth, opening, memory_of}
 use Rattle.rules.specs.Lists.{State, after}
@@ -32,7 +32,7 @@ use Rattle.listing.proofs.Unique.{one_answer}
 use Rattle.listing.proofs.Sequence.{book_shows}
 use Rattle.counting.specs.declared.Count.{Count}
 use Rattle.counting.specs.Count.{ReachedCount, Counted, refused, dangling, counted}
-use Rattle.counting.specs.Sequence.{new_one, new_calls, GivesFrom, ends, gives, CountMeets, CountStatement}
+use Rattle.counting.specs.Sequence.{new_one, new_calls, GivesFrom, ends, gives, CountStatement}
 use Rattle.counting.proofs.Unique.{falling_once}
 
 -- the pixels of a book, or its nodes

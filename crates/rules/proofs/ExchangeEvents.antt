@@ -1,6 +1,6 @@
 -- Who is doomed after an event: a failed exchange frees its worker, and only a done one dooms others.
 -- Relies on the exchange of a turn, on the theory's account of it, and on what a start and a turn leave.
-use Prim.Native.Nat.{ℕ, suc, ◌+◌, ◌-◌, ◌≤◌, ◌<◌}
+use Prim.Native.Nat.{ℕ, suc, ◌+◌, ◌≤◌, ◌<◌}
 use mathlib.Core.Path.{◌≡◌, refl, sym, ap, subst, ◌∙◌}
 use mathlib.Core.Bool.{Bool, true, false}
 use mathlib.Core.List.{List}
@@ -24,7 +24,6 @@ use Rattle.record.specs.declared.Answer.{Answer}
 use Rattle.record.specs.declared.Exchange.{Exchange}
 use Rattle.record.specs.declared.Exchange.TheVariants.{None}
 use Rattle.rules.specs.Steps.{Step}
-use Rattle.rules.specs.Acts.{act}
 use Rattle.rules.specs.Operations.{Result, record_of, memory_of, start, turn}
 use Rattle.rules.specs.Lists.{State, after}
 use Rattle.rules.specs.Calls.{Event, starts, turns, happens}

@@ -11,7 +11,7 @@ use borrow.Author.Tests.{eq-eqb, ne_eqb, le-leb, lt-leb}
 use Rattle.words.specs.Choice.{pick, both, every}
 use Rattle.words.specs.Digits.{depths}
 use Rattle.words.proofs.Choice.{pick_true, pick_false, both_true}
-use Rattle.settings.specs.Sizes.{max_moves, within}
+use Rattle.settings.specs.Sizes.{max_moves}
 use Rattle.settings.specs.declared.Settings.{Settings}
 use Rattle.record.specs.declared.Move.{Move}
 use Rattle.record.specs.Kinds.{kind_no}

@@ -1,6 +1,6 @@
 -- A table that shows a list of pixels, over one call alone: the answer is the list's, and the table shows the list after it.
 -- Relies on the answers of a call alone.
-use Prim.Native.Nat.{ℕ, zero, suc, ◌+◌, ◌<◌}
+use Prim.Native.Nat.{ℕ, zero, suc, ◌<◌}
 use mathlib.Core.Path.{◌≡◌, refl, sym, ap, ◌∙◌}
 use mathlib.Core.Logic.{◌⊎◌, inl, inr}
 use mathlib.Core.Bool.{true, false}

@@ -14,7 +14,6 @@ use Rattle.words.specs.Choice.{pick, every}
 use Rattle.words.proofs.Choice.{pick-both, pick_true, pick_false, both_left, both_right, both_true}
 use Rattle.settings.specs.Sizes.{question1, worker_words, views}
 use Rattle.settings.specs.declared.Settings.{Settings}
-use Rattle.settings.proofs.Laws.{room}
 use Rattle.record.specs.declared.Answer.{Answer}
 use Rattle.record.specs.declared.Answer.TheVariants.{Nothing, Full, Open}
 use Rattle.record.specs.declared.Head.{Head}

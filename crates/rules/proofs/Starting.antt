@@ -15,12 +15,11 @@ use Rattle.words.specs.Digits.{base, depths, pixel_number, max_pixel}
 use Rattle.words.proofs.Choice.{both_left, both_right}
 use Rattle.settings.specs.Sizes.{views}
 use Rattle.settings.specs.declared.Settings.{Settings}
-use Rattle.areas.specs.Memory.{areas}
 use Rattle.rules.specs.Heads.{started}
 use Rattle.rules.specs.Asked.{question4, question5, question17, question7}
 use Rattle.rules.specs.Operations.{record_of, start_questions, started_areas}
 use Rattle.rules.specs.Lists.{State, state}
-use Rattle.rules.specs.Calls.{Call, Opened, starts}
+use Rattle.rules.specs.Calls.{Call, Opened}
 use Rattle.rules.specs.Refusals.{AllYes}
 use Rattle.trie.proofs.Update.{upd, upd_same, upd_other}
 use Rattle.trie.proofs.Evolve.{grows_refl}

@@ -23,7 +23,7 @@ use Rattle.record.specs.declared.Head.{Head}
 use Rattle.record.specs.declared.Move.{Move}
 use Rattle.record.specs.Kinds.{kind_no}
 use Rattle.record.specs.Fits.{role_fits}
-use Rattle.record.specs.Layout.{Record, record', head_list, load, store, store_head, store_moves, move_to, worker_place}
+use Rattle.record.specs.Layout.{Record, head_list, load, store, store_head, store_moves, move_to, worker_place}
 use Rattle.record.proofs.Records.{WellFormed, length-store, store_outside, load_same}
 use Rattle.record.proofs.Apart.{place_next}
 use Rattle.record.proofs.Apart as outside

@@ -1,7 +1,6 @@
 -- `counting::marked_among` meets its contract.
 -- Relies on Ways.
 use borrow.Author.Rules.{rules}
-use Prim.Native.Nat.{◌-◌}
 use Rattle.counting.proofs.Ways.{among_none, among_more, among_all}
 use Rattle.counting.proofs.marked_among.Goals as goal
 

@@ -6,7 +6,7 @@ use Rattle.run.specs.Remaining.{left}
 use Rattle.leafdrum.proofs.put_all.Given as goal
 
 abbrev pub invariant-loop-p : goal.invariant-loop-p
-invariant-loop-p l =     (length l.nodes ≡ length l.initial.nodes)
+invariant-loop-p l = (length l.nodes ≡ length l.initial.nodes)
     × (length l.levels ≡ length l.initial.levels)
     × (length l.workers ≡ length l.initial.workers)
 

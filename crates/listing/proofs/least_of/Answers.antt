@@ -1,7 +1,6 @@
 -- `listing::least_of` meets its contract.
 -- Relies on Ways.
 use borrow.Author.Rules.{rules}
-use Prim.Native.Nat.{◌-◌}
 use Rattle.listing.proofs.Ways.{least_none, least_more, least_all}
 use Rattle.listing.proofs.least_of.Goals as goal
 

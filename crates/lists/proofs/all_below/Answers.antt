@@ -1,6 +1,5 @@
 -- `lists::all_below` meets its contract.
 -- Relies on the ways through a list of turns.
-use Prim.Native.Nat.{◌-◌}
 use Rattle.lists.proofs.Ways.{below_none, below_more, below_all}
 use borrow.Author.Rules.{rules}
 use Rattle.lists.proofs.all_below.Goals as goal

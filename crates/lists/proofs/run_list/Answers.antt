@@ -1,6 +1,5 @@
 -- `lists::run_list` meets its contract.
 -- Relies on the ways through a list of turns.
-use Prim.Native.Nat.{◌-◌}
 use Rattle.lists.proofs.Ways.{begin_three, begin_list, left_of, of_three, entry_below, entry_fits, entry_keeps, place_in, first_entry, next_entry, last_entry, list_more, list_all, list_left, list_six}
 use borrow.Author.Rules.{rules}
 use Rattle.lists.proofs.run_list.Goals as goal

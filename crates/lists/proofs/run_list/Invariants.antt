@@ -14,7 +14,7 @@ use Rattle.rules.proofs.Three.{Three}
 use Rattle.lists.proofs.run_list.Given as goal
 
 abbrev pub invariant-loop-t : goal.invariant-loop-t
-invariant-loop-t l =     (l.k ≤ length l.rest)
+invariant-loop-t l = (l.k ≤ length l.rest)
     × (length l.nodes ≡ length l.initial.nodes)
     × (length l.levels ≡ length l.initial.levels)
     × (length l.workers ≡ length l.initial.workers)

@@ -1,6 +1,5 @@
 -- `printing::put_bytes` meets its contract.
 -- Relies on the laws of bytes put one behind the other.
-use Prim.Native.Nat.{◌-◌}
 use lib.ListN.{length-set}
 use borrow.Author.Rules.{rules}
 use Rattle.printing.proofs.Spelling.{bytes_none, bytes_more, bytes_all}

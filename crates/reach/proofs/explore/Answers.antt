@@ -2,7 +2,6 @@
 -- Relies on Ways.
 use native.Mathlib.Omega.{arith}
 use Rattle.words.proofs.Choice.{via}
-use Prim.Native.Nat.{◌-◌}
 use borrow.Author.Rules.{rules}
 use Rattle.reach.proofs.Ways.{count_small, round-left, round_less, rounds-none, rounds-more, rounds-end}
 use Rattle.reach.proofs.explore.Goals as goal

@@ -1,7 +1,7 @@
 -- `record::kind_of` meets its contract.
 -- Relies on Numbers for the numbers that are no kind.
 use native.Mathlib.Omega.{arith}
-use Rattle.record.proofs.Numbers.{unknown, past}
+use Rattle.record.proofs.Numbers.{unknown}
 use Rattle.record.specs.Kinds.{kind_of, kinds}
 use Rattle.record.proofs.kind_of.Goals as goal
 

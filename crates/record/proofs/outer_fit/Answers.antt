@@ -1,6 +1,5 @@
 -- `record::outer_fit` meets its contract.
 -- Relies on Tests for the ways through its loop.
-use Prim.Native.Nat.{◌-◌}
 use Rattle.record.proofs.Tests.{outer-none, outer-more, outer-all}
 use borrow.Author.Rules.{rules}
 use Rattle.record.proofs.outer_fit.Goals as goal

@@ -1,6 +1,5 @@
 -- `steps::back_meets` meets its contract.
 -- Relies on Back.
-use Prim.Native.Nat.{◌-◌}
 use Rattle.words.proofs.Auto.{tests}
 use Rattle.words.proofs.Choice.{via}
 use Rattle.steps.proofs.Back.{meets_begins, meets_here, meets_not, meets_further, meets_last}

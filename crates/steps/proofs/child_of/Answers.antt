@@ -1,6 +1,5 @@
 -- `steps::child_of` meets its contract.
 -- Relies on Back.
-use Prim.Native.Nat.{◌-◌}
 use Rattle.words.proofs.Auto.{tests}
 use Rattle.steps.proofs.Back.{child_begins, child_here, child_further, child_last}
 use borrow.Author.Rules.{rules}

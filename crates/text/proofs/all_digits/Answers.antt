@@ -1,6 +1,5 @@
 -- `text::all_digits` meets its contract.
 -- Relies on the ways through the loop.
-use Prim.Native.Nat.{◌-◌}
 use borrow.Author.Rules.{rules}
 use Rattle.text.proofs.Ways.{every_more, every-not, every-end}
 use Rattle.text.proofs.all_digits.Goals as goal

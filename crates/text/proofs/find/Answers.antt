@@ -1,6 +1,5 @@
 -- `text::find` meets its contract.
 -- Relies on the ways through the loop.
-use Prim.Native.Nat.{◌-◌}
 use borrow.Author.Rules.{rules}
 use Rattle.text.proofs.Ways.{find_more, find_here, find_none}
 use Rattle.text.proofs.find.Goals as goal

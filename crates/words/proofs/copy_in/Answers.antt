@@ -1,6 +1,5 @@
 -- `words::copy_in` meets its contract.
 -- Relies on Blocks for one word more and for all.
-use Prim.Native.Nat.{◌-◌}
 use lib.ListN.{length-set}
 use borrow.Author.Rules.{rules}
 use Rattle.words.proofs.Blocks.{in_more, in_all}

@@ -1,6 +1,5 @@
 -- `words::copy_out` meets its contract.
 -- Relies on Blocks for no word, one word more, and all.
-use Prim.Native.Nat.{◌-◌}
 use lib.ListN.{length-set}
 use borrow.Author.Rules.{rules}
 use Rattle.words.proofs.Blocks.{out_none, out_more, out_all}

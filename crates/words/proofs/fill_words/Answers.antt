@@ -1,6 +1,5 @@
 -- `words::fill_words` meets its contract.
 -- Relies on Blocks for one word more and for all.
-use Prim.Native.Nat.{◌-◌}
 use lib.ListN.{length-set}
 use borrow.Author.Rules.{rules}
 use Rattle.words.proofs.Blocks.{fill_more, fill-all}

@@ -21,7 +21,7 @@ pub close_met-requires : goal.close_met-requires
 close_met-requires c = record { sized = search rules; moves_le_most_depth = search rules; bound = search (rules, level_one) }
 
 pub returns-then-self-last_depth : goal.returns-then-self-last_depth
-returns-then-self-last_depth c =     close-gives _ _ _ _ c.close_met.ensures c.exchange_from-word.ensures c.level_ref-g.ensures c.last_depth.ensures.0 c.if-self-last_depth.true c.stands_with.ensures c.if-stands_with.true
+returns-then-self-last_depth c = close-gives _ _ _ _ c.close_met.ensures c.exchange_from-word.ensures c.level_ref-g.ensures c.last_depth.ensures.0 c.if-self-last_depth.true c.stands_with.ensures c.if-stands_with.true
 
 pub returns-else-self-last_depth : goal.returns-else-self-last_depth
 returns-else-self-last_depth c = search (rules, no_room_gives)

@@ -20,7 +20,7 @@ pub put_met-requires : goal.put_met-requires
 put_met-requires c = search (rules, picks_one)
 
 pub returns-then-picks_with : goal.returns-then-picks_with
-returns-then-picks_with c =     put-tried _ _ _ _ _ c.put_met.ensures c.exchange_from-word.ensures c.entry_of-x.ensures c.node_ref-n.ensures
+returns-then-picks_with c = put-tried _ _ _ _ _ c.put_met.ensures c.exchange_from-word.ensures c.entry_of-x.ensures c.node_ref-n.ensures
     c.picks_with.ensures c.if-picks_with.true
 
 pub returns-else-picks_with : goal.returns-else-picks_with
