@@ -45,7 +45,8 @@ class Source:
             for indent, name, body in found:
                 words = iter(re.findall(r"\.?\w+|=>|\S", re.sub(r"//.*", "", body).replace("::", ".")))
                 self.bodies.setdefault((crate, "." * bool(indent) + name), []).extend(grouped(words))
-            self.imports.update({(crate, name): (source, name) for source, name in re.findall(r"^use (\w+)::(\w+);", text, re.M)})
+            for source, names in re.findall(r"^use (\w+)::\{?([\w,\s]+)\}?;", text, re.M):
+                self.imports.update({(crate, name): (source, name) for name in re.findall(r"\w+", names)})
 
     def called(self, key, given=()):
         key = key if key in self.bodies else self.imports.get(key, key)
