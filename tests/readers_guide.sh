@@ -14,7 +14,7 @@ for n in $names; do
     fi
 done
 # steps, worker, mover, table, turns and lists have mirrors of the code alone
-for crate in words settings areas record rules reach listing bench text printing run export; do
+for crate in words settings areas record rules reach listing counting bench text printing run export; do
     for file in crates/$crate/specs/*.antt; do
         module=$(basename "$file" .antt)
         case $module in Lib | Everything | Cut) continue ;; esac
