@@ -255,8 +255,7 @@ def defined():
         return slices[kind] % (name, lengths[name]) if kind in slices else c_name[kind] + name
 
     listing = read("crates/listing/src/lib.rt")
-    for struct, text in (("Settings", read("crates/settings/src/lib.rt")), ("LeafdrumReply", source), ("Listing", listing), ("LeafdrumGiven", source),
-                         ("Count", read("crates/counting/src/lib.rt"))):
+    for struct, text in (("Settings", read("crates/settings/src/lib.rt")), ("LeafdrumReply", source), ("Listing", listing), ("LeafdrumGiven", source), ("Count", source)):
         body = re.search(r"pub struct %s \{(.*?)\n\}" % struct, text, re.S).group(1)
         fields = "".join("%s%s;" % (c_name[kind], name) for name, kind in re.findall(r"pub (\w+): (\w+),", body))
         found.append("typedefstruct{%s}%s;" % (fields, c_name[struct]))
@@ -270,9 +269,10 @@ def defined():
     greatest = re.search(r"pub const MAX_PIXEL: u32 = (\d+);", read("crates/settings/src/lib.rt")).group(1)
     past = re.search(r"const END: u32 = Settings::MAX_PIXEL \+ (\d+);", listing).group(1)
     found.append("enum{LEAFDRUM_LISTING_START=0,LEAFDRUM_LISTING_END=%d};" % (int(greatest) + int(past)))
-    given = re.findall(r"Given::(\w+)(?:\(\w\))? => LeafdrumGiven \{[^}]*?answer: (\d),", source)
-    found.append("enum{%s};" % ",".join("LEAFDRUM_GIVEN_%s=%s" % (name.upper(), n) for name, n in given))
-    # of the refusals the source has numbers alone: their names are README's
+    given_name = {"Err(r)": "REFUSED", "Ok(Some(pixel))": "PIXEL", "Ok(None)": "END"}
+    given = re.findall(r"((?:Ok|Err)\(\S+\)) => Self \{[^}]*?answer: (\d),", source)
+    found.append("enum{%s};" % ",".join("LEAFDRUM_GIVEN_%s=%s" % (given_name[case], n) for case, n in given))
+    # the names of the refusals are README's, their numbers those of the enum in settings
     refusals = re.findall(r"^\| (\d+) \| `(LEAFDRUM_REFUSED_\w+)` \|", read("README.md"), re.M)
     found.append("enum{%s};" % ",".join("%s=%s" % (name, n) for n, name in sorted(refusals, key=lambda r: int(r[0]))))
     return sorted(found)

@@ -20,8 +20,11 @@ MANY = 100
 WRONG = [
     ("worker", " put_met(s, h, word, nodes, levels)\n", " let again = cell_at(x, nodes, levels);\n put_met(s, h, again, nodes, levels)\n", ["put"]),
     ("mover", " let g = level_ref(h.held_level - 1);\n", " let g = level_ref(h.held_level - 1);\n let before = next_at(nodes, h.node);\n", ["set_close"]),
-    ("worker", " and(compares_ref(s, word, nodes), w.meets)", " and(compares_ref(s, next_at(nodes, h.node), nodes), w.meets)", ["append", "close", "follow", "view_next"]),
-    ("worker", " view_met(before, s, h, word, Kind::Take, Kind::Read)\n", " view_met(before, s, h, next_at(nodes, h.node), Kind::Take, Kind::Read)\n", ["view_entry"]),
+    ("mover", " Some(child) if before & ref_taken(s, word) =>", " Some(child) if before & ref_taken(s, next_at(nodes, h.node)) =>", ["set_append", "set_close", "set_follow"]),
+    ("mover", " let h = met_head(h, more(s, h.count), child, word);\n", " let h = met_head(h, more(s, h.count), child, next_at(nodes, h.node));\n", ["set_append", "set_close", "set_follow"]),
+    ("worker", " compares_ref(s, word, nodes) =>", " compares_ref(s, next_at(nodes, h.node), nodes) =>", ["append", "close", "follow", "view_next"]),
+    ("worker", " Ok(met(s, h, more(s, h.count), child, word, ", " Ok(met(s, h, more(s, h.count), child, next_at(nodes, h.node), ", ["append", "close", "follow", "view_next"]),
+    ("worker", " peek_met(true, before, s, h, word, Kind::Take,", " peek_met(true, before, s, h, next_at(nodes, h.node), Kind::Take,", ["view_entry"]),
 ]
 
 
@@ -43,7 +46,7 @@ class Source:
             if len(found) != len(re.findall(r"\bfn \w", text)):
                 sys.exit("reads: not every function of %s is read" % crate)
             for indent, name, body in found:
-                words = iter(re.findall(r"\.?\w+|=>|\S", re.sub(r"//.*", "", body).replace("::", ".")))
+                words = iter(re.findall(r"\.\.|\.?\w+|=>|\S", re.sub(r"//.*", "", body).replace("::", ".")))
                 self.bodies.setdefault((crate, "." * bool(indent) + name), []).extend(grouped(words))
             for source, names in re.findall(r"^use (\w+)::\{?([\w,\s]+)\}?;", text, re.M):
                 self.imports.update({(crate, name): (source, name) for name in re.findall(r"\w+", names)})
@@ -61,7 +64,7 @@ class Source:
         total, at = 0, 0
         while at < len(words):
             word, after = words[at], words[at + 1] if at + 1 < len(words) else ""
-            count, at = self.branches(crate, words, at + 1) if word in ("if", "while", "match") else (0, at + 1)
+            count, at = self.branches(crate, words, at + 1) if word in ("if", "while", "for", "match") else (0, at + 1)
             if isinstance(word, list):
                 count = self.most(crate, word[1:])
             elif after[:1] == ["("] and re.match(r"\.?\w", word):
@@ -70,16 +73,27 @@ class Source:
         return total
 
     def branches(self, crate, words, at):
-        """The most accesses of the if, while or match before this place, and where it ends."""
+        """The most accesses of the if, while, for or match before this place, and where it ends."""
         block = next(k for k in range(at, len(words)) if words[k][0] == "{")
         asked, done, end = self.most(crate, words[at:block]), self.most(crate, words[block][1:]), block + 1
         if words[at - 1] == "match":
-            arms = [k for k, word in enumerate(words[block]) if word == "=>"] + [len(words[block])]
-            done = max(self.most(crate, words[block][a:b]) for a, b in zip(arms, arms[1:]))
+            done = self.arms(crate, words[block][1:])
         if words[end:end + 1] == ["else"]:
             other, end = self.branches(crate, words, end + 2) if words[end + 1] == "if" else (self.most(crate, words[end + 1][1:]), end + 2)
             done = max(done, other)
-        return (asked + done) * (MANY if words[at - 1] == "while" else 1), end
+        return (asked + done) * (MANY if words[at - 1] in ("while", "for") else 1), end
+
+    def arms(self, crate, words):
+        """The most accesses of the arms of a match. The tests of the arms before it stand on the way to an arm."""
+        tests, dearest, at = 0, 0, 0
+        while "=>" in words[at:]:
+            to = words.index("=>", at)
+            test = words[at:to]
+            tests += self.most(crate, test[test.index("if") + 1:]) if "if" in test else 0
+            at = to + 2 if words[to + 1][0] == "{" else words.index(",", to) if "," in words[to:] else len(words)
+            dearest = max(dearest, tests + self.most(crate, words[to + 1:at]))
+            at += words[at:at + 1] == [","]
+        return dearest
 
     def not_one(self):
         return {name[1:]: self.called((crate, name)) for crate, name in TURNS + VIEWS if self.called((crate, name)) != 1}

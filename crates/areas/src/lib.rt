@@ -9,10 +9,10 @@ ghost use Rattle.settings.specs.Sizes.{level_words, max_nodes, most_levels};
 ghost use Rattle.areas.specs.Memory.{memory, level_ref, node_ref, is_node, named, pixel_at, next_at, previous_at, depth_at, entry_at, cell_at, set_cell, exchanged, exchange, entry_cell, fill_node, fill_level, level_taken, node_taken, ref_taken};
 
 use settings::{Settings, entries, level_words};
-use words::{at, digit, fill_words, lt, put};
+use words::{at, digit, fill_words, put};
 
-// The previous word that leads nowhere.
-pub const NONE: u32 = 4294967295;
+// The previous word that leads nowhere: document 01 lays it down.
+pub const NONE: u32 = u32::MAX;
 
 // A cell: an entry of a level (level, entry), or the next word of a node.
 #[derive(Clone, Copy)]
@@ -22,6 +22,7 @@ pub enum Cell {
 }
 
 // The place of word k of level g.
+#[tactic(auto, using(crate::proofs::Laws::level_most))]
 pub fn level_place(w: u32, g: u32, k: usize) -> usize
     requires digit_width { DigitWidth w }
     requires k_bound { k ≤ 4294967297 }
@@ -39,12 +40,15 @@ fn node_place(i: u32, k: usize) -> usize
     (Settings::NODE_WORDS as usize) * (i as usize) + k
 }
 
+// A reference stays the word that document 01 lays down, and is no enum: a cell's word is compared with it as it stands.
+#[tactic(auto, unfolding(crate::specs::Memory::is_node))]
 pub fn is_node(r: u32) -> bool
     ensures { result ≡ is_node r }
 {
     r % 2 == 1
 }
 
+#[tactic(auto, unfolding(crate::specs::Memory::named))]
 pub fn named(r: u32) -> u32
     ensures { result ≡ named r }
 {
@@ -72,19 +76,22 @@ pub fn node_ref(i: u32) -> u32
     2 * i + 1
 }
 
+#[tactic(auto, unfolding(crate::specs::Memory::level_taken))]
 pub fn level_taken(s: Settings, g: u32) -> bool
     ensures { result ≡ level_taken s g }
 {
-    lt(g, s.levels_taken)
+    g < s.levels_taken
 }
 
+#[tactic(auto, unfolding(crate::specs::Memory::node_taken))]
 pub fn node_taken(s: Settings, i: u32) -> bool
     ensures { result ≡ node_taken s i }
 {
-    lt(i, s.nodes_taken)
+    i < s.nodes_taken
 }
 
 // A reference names a taken node or level.
+#[tactic(auto, unfolding(crate::specs::Memory::ref_taken, words::specs::Choice::pick))]
 pub fn ref_taken(s: Settings, r: u32) -> bool
     ensures { result ≡ ref_taken s r }
 {
@@ -95,18 +102,22 @@ pub fn ref_taken(s: Settings, r: u32) -> bool
     }
 }
 
+// The words by their names, as the definitions have them, one line each: what they share is node_place and level_place.
+#[tactic(auto, unfolding(crate::specs::Memory::pixel_at))]
 pub fn pixel_at(nodes: &[u32], i: u32) -> u32
     ensures { result ≡ pixel_at nodes.now i }
 {
     at(nodes, node_place(i, 0))
 }
 
+#[tactic(auto, unfolding(crate::specs::Memory::next_at))]
 pub fn next_at(nodes: &[u32], i: u32) -> u32
     ensures { result ≡ next_at nodes.now i }
 {
     at(nodes, node_place(i, 1))
 }
 
+#[tactic(auto, unfolding(crate::specs::Memory::previous_at))]
 pub fn previous_at(w: u32, levels: &[u32], g: u32) -> u32
     requires { DigitWidth w }
     ensures { result ≡ previous_at w levels.now g }
@@ -114,6 +125,7 @@ pub fn previous_at(w: u32, levels: &[u32], g: u32) -> u32
     at(levels, level_place(w, g, 0))
 }
 
+#[tactic(auto, unfolding(crate::specs::Memory::depth_at))]
 pub fn depth_at(w: u32, levels: &[u32], g: u32) -> u32
     requires { DigitWidth w }
     ensures { result ≡ depth_at w levels.now g }
@@ -121,6 +133,7 @@ pub fn depth_at(w: u32, levels: &[u32], g: u32) -> u32
     at(levels, level_place(w, g, 1))
 }
 
+#[tactic(auto, unfolding(crate::specs::Memory::entry_at))]
 fn entry_at(w: u32, levels: &[u32], g: u32, e: u32) -> u32
     requires { DigitWidth w }
     ensures { result ≡ entry_at w levels.now g e }
@@ -129,15 +142,16 @@ fn entry_at(w: u32, levels: &[u32], g: u32, e: u32) -> u32
 }
 
 // The entry that a pixel number picks in level g.
+#[tactic(auto, unfolding(crate::specs::Memory::entry_cell))]
 pub fn entry_cell(w: u32, levels: &[u32], g: u32, pixel: u32) -> Cell
     requires { DigitWidth w }
     ensures { result ≡ entry_cell w levels.now g pixel }
 {
-    let d = digit(w, pixel, depth_at(w, levels, g));
-    Cell::Entry(g, d)
+    Cell::Entry(g, digit(w, pixel, depth_at(w, levels, g)))
 }
 
 // The word in a cell.
+#[tactic(auto, unfolding(crate::specs::Memory::cell_at))]
 pub fn cell_at(w: u32, x: Cell, nodes: &[u32], levels: &[u32]) -> u32
     requires { DigitWidth w }
     ensures { result ≡ cell_at w (memory nodes.now levels.now) x }
@@ -156,21 +170,19 @@ pub fn set_next(nodes: &mut [u32], i: u32, v: u32)
 }
 
 // A word is written to a cell.
+#[tactic(auto, unfolding(crate::specs::Memory::set_cell))]
 pub fn set_cell(w: u32, x: Cell, v: u32, nodes: &mut [u32], levels: &mut [u32])
     requires { DigitWidth w }
     ensures { memory nodes.new levels.new ≡ set_cell w (memory nodes.old levels.old) x v }
 {
     match x {
-        Cell::Entry(g, e) => {
-            put(levels, level_place(w, g, 2 + (e as usize)), v);
-        }
-        Cell::Next(i) => {
-            set_next(nodes, i, v);
-        }
+        Cell::Entry(g, e) => put(levels, level_place(w, g, 2 + (e as usize)), v),
+        Cell::Next(i) => set_next(nodes, i, v),
     }
 }
 
 // Cell x is exchanged from a to b: b is written only if it holds a. The word that it held.
+#[tactic(auto, unfolding(crate::specs::Memory::exchange, words::specs::Choice::pick))]
 pub fn exchange(w: u32, x: Cell, a: u32, b: u32, nodes: &mut [u32], levels: &mut [u32]) -> u32
     requires { DigitWidth w }
     ensures { exchanged result (memory nodes.new levels.new) ≡ exchange w (memory nodes.old levels.old) x a b }
@@ -183,6 +195,7 @@ pub fn exchange(w: u32, x: Cell, a: u32, b: u32, nodes: &mut [u32], levels: &mut
 }
 
 // Node i gets its two words.
+#[tactic(auto, unfolding(crate::specs::Memory::fill_node))]
 pub fn fill_node(nodes: &mut [u32], i: u32, pixel: u32, next: u32)
     ensures { nodes.new ≡ fill_node nodes.old i pixel next }
 {
@@ -200,6 +213,7 @@ fn fill_head(w: u32, levels: &mut [u32], g: u32, previous: u32, depth: u32)
 }
 
 // Level g gets its previous level and depth, and entries that refer to itself.
+#[tactic(auto, unfolding(crate::specs::Memory::fill_level))]
 pub fn fill_level(w: u32, levels: &mut [u32], g: u32, previous: u32, depth: u32)
     requires digit_width { DigitWidth w }
     requires g_le_most_levels { g ≤ most_levels }

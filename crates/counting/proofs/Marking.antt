@@ -1,24 +1,27 @@
 -- The number of marked nodes is the number of reached nodes.
 -- Relies on reach for what the marks tell.
-use mathlib.Core.Path.{◌≡◌, refl, ap, ◌∙◌}
+use mathlib.Core.Path.{◌≡◌, refl, sym, ap, ◌∙◌}
 use mathlib.Core.Logic.{◌≢◌, ◌⊎◌, inl, inr}
-use mathlib.Core.Bool.{Bool, true, false}
+use mathlib.Core.Bool.{Bool, true, false, not}
 use mathlib.Core.List.Memᴰ
 use mathlib.Core.List.{List, [], ◌∷◌, Memᴰ}
-use Prim.Native.Nat.{ℕ, zero, suc, ◌+◌, ◌<◌}
+use Prim.Native.Nat.{ℕ, zero, suc, ◌+◌, ◌≤◌, ◌<◌}
 use native.Mathlib.Decide.{ℕ_discrete}
 use native.Mathlib.Omega.{arith}
-use lib.Dec.{eqb}
-use lib.ListN.{length, get_or}
-use borrow.Author.Tests.{eqb-true, eqb-false}
+use native.Mathlib.Numerals.{add-one}
+use lib.Dec.{ltb}
+use lib.ListN.{length, get_or, get_or-eq_default}
+use Rattle.std.proofs.Common.{take_all}
+use borrow.Author.Tests.{ltb-true, ltb-false, eq-eqb, ne_eqb}
+use Rattle.std.specs.Prelude.{nat_eq, count_by}
+use Rattle.std.proofs.lemmas.List.Sums.{count_by_more_yes, count_by_more_no}
 use Rattle.words.specs.Choice.{first_no}
-use Rattle.words.proofs.Choice.{pick-both}
 use Rattle.settings.specs.declared.Settings.{Settings}
 use Rattle.areas.specs.Memory.{Memory}
 use Rattle.reach.specs.Marked.{Marked, Fits, things}
 use Rattle.reach.specs.Reading.{questions_of}
 use Rattle.reach.proofs.Exact.{not_dangling, reached_below}
-use Rattle.counting.specs.Cut.{one_more, marked_among}
+use Rattle.counting.specs.Cut.{marked_among}
 use Rattle.counting.specs.Count.{Falling, none, one, more, ReachedCount, count, Counted, dangling, counted}
 
 -- the marked ones among the first k, the last first
@@ -34,13 +37,35 @@ falling_cons : (k : ℕ) (l : List ℕ) → ((i : ℕ) → Memᴰ i l → i < k)
 falling_cons k [] b f = one
 falling_cons k (j ∷ l) b f = more (b j (Memᴰ.head refl)) f
 
+-- the next mark counts if it is set
+abbrev is_set : ℕ → Bool
+is_set x = not (nat_eq x 0)
+
+module _ (marks : List ℕ) (k : ℕ) where
+  within : get_or marks k 0 ≢ 0 → k < length marks
+  within d = by (ltb k (length marks)) refl
+    where
+      by : (b : Bool) → ltb k (length marks) ≡ b → k < length marks
+      by true e = ltb-true _ _ e
+      by false e = absurd (d (get_or-eq_default marks 0 (ltb-false _ _ e)))
+
+  one_marked : get_or marks k 0 ≢ 0 → marked_among marks (suc k) ≡ marked_among marks k + 1
+  unfolding marked_among
+  one_marked d = rw (← add-one k) (count_by_more_yes is_set marks k 0 (within d) (ap not (ne_eqb _ _ d)))
+
+  not_marked : get_or marks k 0 ≡ 0 → marked_among marks (suc k) ≡ marked_among marks k
+  unfolding marked_among
+  not_marked z = by (ltb k (length marks)) refl
+    where
+      by : (b : Bool) → ltb k (length marks) ≡ b → marked_among marks (suc k) ≡ marked_among marks k
+      by true e = rw (← add-one k) (count_by_more_no is_set marks k 0 (ltb-true _ _ e) (ap not (eq-eqb _ _ z)))
+      by false e = let l : length marks ≤ k = ltb-false _ _ e in ap (count_by is_set) (take_all (suc k) marks (omega arith) ∙ sym (take_all k marks l))
+
 marks_of : (marks : List ℕ) (k : ℕ) → Marks marks k (marked_among marks k)
-unfolding marked_among one_more
+unfolding marked_among
 marks_of marks zero =
     record { list = []; once = none; below = λ i h. absurd (Memᴰ.not-nil h); all = λ i h. absurd (omega arith); only = λ i h. absurd (Memᴰ.not-nil h); counts = refl }
-marks_of marks (suc k) =
-    let L = marks_of marks k in
-    pick-both (Marks marks (suc k)) (eqb (get_or marks k 0) 0) (λ z. skip L (eqb-true _ _ z)) (λ z. take L (eqb-false _ _ z))
+marks_of marks (suc k) = by (ℕ_discrete (get_or marks k 0) 0) (marks_of marks k)
   where
     skip : Marks marks k (marked_among marks k) → get_or marks k 0 ≡ 0 → Marks marks (suc k) (marked_among marks k)
     skip L z =
@@ -79,6 +104,10 @@ marks_of marks (suc k) =
         by : (i : ℕ) → i < suc k → get_or marks i 0 ≢ 0 → Dec (i ≡ k) → Memᴰ i (k ∷ L.list)
         by i h d (yes e) = Memᴰ.head e
         by i h d (no n) = Memᴰ.tail (L.all i (omega arith) d)
+
+    by : Dec (get_or marks k 0 ≡ 0) → Marks marks k (marked_among marks k) → Marks marks (suc k) (marked_among marks (suc k))
+    by (yes z) L = rw (not_marked marks k z) (skip L z)
+    by (no d) L = rw (one_marked marks k d) (take L d)
 
 -- what a count gives by the search's answer and its marks
 module _ {w : ℕ} {s : Settings} {m : Memory} {a : Bool} {marks : List ℕ} (X : Marked w s m a marks) (F : Fits s things) (z : first_no (questions_of w s m) ≡ 0) where

@@ -8,6 +8,7 @@ use mathlib.Core.List.{List, [], ◌∷◌, ◌++◌, Memᴰ, Permᴰ}
 use native.Mathlib.Decide.{ℕ_discrete}
 use native.Mathlib.Omega.{arith}
 use lib.ListN.{length, length-append}
+use Rattle.std.specs.Prelude.{None, Some, Ok}
 use Rattle.words.specs.Choice.{first_no}
 use Rattle.settings.specs.declared.Settings.{Settings}
 use Rattle.areas.specs.Memory.{Memory}
@@ -23,15 +24,13 @@ use Rattle.rules.proofs.Staying.{moment}
 use Rattle.rules.proofs.Operated.{Comes, here-width}
 use Rattle.reach.specs.Reachable.{Dangling, Reachable}
 use Rattle.reach.specs.Reading.{questions_of}
+use Rattle.settings.proofs.Refusals.{refusal_positive}
 use Rattle.reach.proofs.Moments.{answered_at, none-dangles_at}
-use Rattle.listing.specs.declared.Given.TheVariants.{Pixel, End}
-use Rattle.listing.specs.declared.Moved.{Moved}
-use Rattle.listing.specs.Next.{end_place, moved, Smallest, NoneAbove, Next}
+use Rattle.listing.specs.Next.{Moved, end_place, moved, Smallest, NoneAbove, Next}
 use Rattle.listing.specs.Next as next
 use Rattle.listing.proofs.Unique.{one_answer}
 use Rattle.listing.proofs.Sequence.{book_shows}
-use Rattle.counting.specs.declared.Count.{Count}
-use Rattle.counting.specs.Count.{ReachedCount, Counted, refused, dangling, counted}
+use Rattle.counting.specs.Count.{Count, ReachedCount, Counted, refused, dangling, counted}
 use Rattle.counting.specs.Sequence.{new_one, new_calls, GivesFrom, ends, gives, CountStatement}
 use Rattle.counting.proofs.Unique.{falling_once}
 
@@ -130,15 +129,15 @@ module _ {w : ℕ} {x : State} {es : List Event} (R : Row w x es) where
       omega arith
 
 -- one "next", by what it gives
-next_pixel : {w : ℕ} {s : Settings} {m : Memory} {place p : ℕ} {r : Moved} → Next w s m place r → r.given ≡ Pixel p → Smallest w m place p × (r.place ≡ p + 1)
-next_pixel (next.refused h e) q = let y : ◌≡◌ {A = ℕ} 0 1 = cc in absurd (omega arith)
+next_pixel : {w : ℕ} {s : Settings} {m : Memory} {place p : ℕ} {r : Moved} → Next w s m place r → r.given ≡ Ok (Some p) → Smallest w m place p × (r.place ≡ p + 1)
+next_pixel (next.refused e) q = let y : ◌≡◌ {A = ℕ} 0 1 = cc in absurd (omega arith)
 next_pixel (next.no_place z l) q = let y : ◌≡◌ {A = ℕ} 0 1 = cc in absurd (omega arith)
 next_pixel (next.dangling z l d) q = let y : ◌≡◌ {A = ℕ} 0 1 = cc in absurd (omega arith)
 next_pixel {p = p} (next.given {p = p'} z d S) q = let e : p' ≡ p = cc in (rw e at S, ap (λ n. n + 1) e)
 next_pixel (next.ended z l d n) q = let y : ◌≡◌ {A = ℕ} 0 1 = cc in absurd (omega arith)
 
-next_end : {w : ℕ} {s : Settings} {m : Memory} {place : ℕ} {r : Moved} → Next w s m place r → r.given ≡ End → NoneAbove w m place
-next_end (next.refused h e) q = let y : ◌≡◌ {A = ℕ} 0 1 = cc in absurd (omega arith)
+next_end : {w : ℕ} {s : Settings} {m : Memory} {place : ℕ} {r : Moved} → Next w s m place r → r.given ≡ Ok None → NoneAbove w m place
+next_end (next.refused e) q = let y : ◌≡◌ {A = ℕ} 0 1 = cc in absurd (omega arith)
 next_end (next.no_place z l) q = let y : ◌≡◌ {A = ℕ} 0 1 = cc in absurd (omega arith)
 next_end (next.dangling z l d) q = let y : ◌≡◌ {A = ℕ} 0 1 = cc in absurd (omega arith)
 next_end (next.given z d S) q = let y : ◌≡◌ {A = ℕ} 0 1 = cc in absurd (omega arith)
@@ -179,7 +178,7 @@ module _ {w : ℕ} {s : Settings} {m : Memory} where
     given_from (suc k) place l h = let (r, N, u) = one_answer s m place in by {r = r} (rw e N) (λ p a b. given_from k (p + 1) a b)
       where
         by : {r : Moved} → Next w s m place r → ((p : ℕ) → end_place < p + 1 + k → p + 1 ≤ end_place → (ps : List ℕ) × GivesFrom w s m (p + 1) ps) → (ps : List ℕ) × GivesFrom w s m place ps
-        by (next.refused n q) f = absurd (n (sym q ∙ z))
+        by (next.refused {r = o} q) f = absurd (refusal_positive o (sym q ∙ z))
         by (next.no_place q n) f = absurd (omega arith)
         by (next.dangling q n y) f = absurd (d y)
         by (next.given {p = p} q n S) f =

@@ -18,9 +18,8 @@ use Rattle.reach.specs.Reachable.{Dangling}
 use Rattle.reach.specs.Reading.{questions_of}
 use Rattle.reach.proofs.Things.{node_taken_lem}
 use Rattle.reach.proofs.Whole.{Whole, whole}
-use Rattle.counting.specs.declared.Count.{Count}
 use Rattle.counting.specs.Cut.{marked_among}
-use Rattle.counting.specs.Count.{Falling, none, one, more, ReachedCount, count, Counted, refused, dangling, counted, OneCount}
+use Rattle.counting.specs.Count.{Falling, none, one, more, Count, ReachedCount, count, Counted, refused, dangling, counted, OneCount}
 use Rattle.counting.proofs.Marking.{marked_six, marked_count}
 
 -- a falling list repeats nothing

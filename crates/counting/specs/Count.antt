@@ -1,14 +1,15 @@
 -- "The flagged count becomes the number of nodes that can be reached from the root.": what a count gives, over what is reached.
 -- Relies on rules for what is reached, on reach for a reference that names nothing taken and for questions 1 to 3.
-use Rattle.std.specs.Prelude.{ℕ, ◌<◌, ◌≡◌, ◌≢◌, length}
+use Rattle.std.specs.Prelude.{ℕ, ◌<◌, ◌≡◌, ◌≢◌, Result, Ok, Err, length}
 use mathlib.Core.List.{List, [], ◌∷◌, Memᴰ}
 use Rattle.words.specs.Choice.{first_no}
 use Rattle.settings.specs.declared.Settings.{Settings}
+use Rattle.settings.specs.declared.Refusal.{Refusal}
+use Rattle.settings.specs.Refusals.{refusal_no}
 use Rattle.areas.specs.Memory.{Memory, node_ref}
 use Rattle.rules.specs.Reached.{Reached}
 use Rattle.reach.specs.Reachable.{Dangling}
 use Rattle.reach.specs.Reading.{questions_of}
-use Rattle.counting.specs.declared.Count.{Count}
 
 -- a list of numbers that fall: each stands in it once
 pub data Falling : List ℕ → Type 0 where
@@ -28,9 +29,19 @@ pub record ReachedCount (w : ℕ) (m : Memory) (c : ℕ) : Type 0 where
   pub only : (i : ℕ) → Memᴰ i list → Reached w m (node_ref i)
   pub counts : length list ≡ c
 
--- what a count gives, by its parts
+-- what a count gives: the number of the refusal or 0, and the flagged count, else 0
+pub record Count : Type 0 where
+  pub number : ℕ
+  pub count : ℕ
+
+-- the same by its parts
 abbrev pub count : ℕ → ℕ → Count
 count n c = record { number = n; count = c }
+
+-- what the code gives, as these two numbers
+abbrev pub told : Result ℕ Refusal → Count
+told (Ok c) = count 0 c
+told (Err r) = count (refusal_no r) 0
 
 -- what is given: one case for each number
 pub data Counted (w : ℕ) (s : Settings) (m : Memory) : Count → Type 0 where

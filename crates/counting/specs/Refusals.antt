@@ -6,8 +6,7 @@ use Rattle.areas.specs.Memory.{Memory}
 use Rattle.rules.specs.Refusals.{FirstNo, AllYes, Iff}
 use Rattle.reach.specs.Reachable.{Dangling}
 use Rattle.reach.specs.Reading.{questions_of}
-use Rattle.counting.specs.declared.Count.{Count}
-use Rattle.counting.specs.Count.{ReachedCount, Counted}
+use Rattle.counting.specs.Count.{Count, ReachedCount, Counted}
 
 -- 1, 2, 3, then 6; no other number
 pub record RefusesCount (w : ℕ) (s : Settings) (m : Memory) (r : Count) : Type 0 where

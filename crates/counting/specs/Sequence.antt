@@ -1,6 +1,6 @@
 -- The flagged count along a sequence from a fresh table: it is never refused, and it is the number of the placed pixels.
 -- Relies on Count for one count, on rules for sequences and their row of calls, on listing for what a listing gives.
-use Rattle.std.specs.Prelude.{ℕ, ◌+◌, ◌≡◌, List, [], ◌∷◌, length}
+use Rattle.std.specs.Prelude.{ℕ, ◌+◌, ◌≡◌, None, Some, Ok, List, [], ◌∷◌, length}
 use Rattle.settings.specs.declared.Settings.{Settings}
 use Rattle.areas.specs.Memory.{Areas, Memory}
 use Rattle.record.specs.declared.Answer.{Answer}
@@ -9,10 +9,8 @@ use Rattle.rules.specs.Operations.{opening, memory_of}
 use Rattle.rules.specs.Lists.{State, after}
 use Rattle.rules.specs.Calls.{Event, Call, calls, history, state_after}
 use Rattle.rules.specs.Demands.{Row}
-use Rattle.listing.specs.declared.Given.TheVariants.{Pixel, End}
 use Rattle.listing.specs.Next.{Next, moved}
-use Rattle.counting.specs.declared.Count.{Count}
-use Rattle.counting.specs.Count.{Counted}
+use Rattle.counting.specs.Count.{Count, Counted}
 
 -- a call that ended "new" counts
 unfoldable pub new_one : Answer → ℕ
@@ -30,8 +28,8 @@ new_calls (c ∷ cs) = new_one c.answer + new_calls cs
 
 -- the pixels that a listing gives from a place to its "end", while no start or turn comes between
 pub data GivesFrom (w : ℕ) (s : Settings) (m : Memory) : ℕ → List ℕ → Type 0 where
-  ends : {place after : ℕ} → Next w s m place (moved End after) → GivesFrom w s m place []
-  gives : {place after p : ℕ} {ps : List ℕ} → Next w s m place (moved (Pixel p) after) → GivesFrom w s m after ps → GivesFrom w s m place (p ∷ ps)
+  ends : {place after : ℕ} → Next w s m place (moved (Ok None) after) → GivesFrom w s m place []
+  gives : {place after p : ℕ} {ps : List ℕ} → Next w s m place (moved (Ok (Some p)) after) → GivesFrom w s m after ps → GivesFrom w s m place (p ∷ ps)
 
 -- what holds of the count after a sequence es from a state x that a carried out opening left
 pub record CountMeets (w : ℕ) (x : State) (es : List Event) (r : Count) : Type 0 where

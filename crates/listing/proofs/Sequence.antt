@@ -9,9 +9,9 @@ use native.Mathlib.Decide.{ℕ_discrete}
 use native.Mathlib.Omega.{arith}
 use native.Mathlib.Nat.{zero-add}
 use borrow.Author.Tests.{eqb-true, eqb-false, eq-eqb, ne_eqb}
-use Rattle.words.specs.Choice.{pick, both, every, first_no}
+use Rattle.words.specs.Choice.{pick, both, first_no}
 use Rattle.words.specs.Digits.{max_pixel}
-use Rattle.words.proofs.Choice.{pick_true, pick_false, both_true, true_false}
+use Rattle.words.proofs.Choice.{pick_true, pick_false, true_false}
 use Rattle.settings.specs.declared.Settings.{Settings}
 use Rattle.areas.specs.Memory.{Areas}
 use Rattle.rules.specs.Operations.{AtWidth, opening, memory_of}
@@ -22,36 +22,34 @@ use Rattle.rules.specs.Refusals.{Iff}
 use Rattle.rules.specs.Consequences.{Shown}
 use Rattle.rules.proofs.Consequences.{follows}
 use Rattle.rules.proofs.Dims.{Width}
-use Rattle.rules.proofs.Questions.{all_yes}
 use Rattle.rules.proofs.Sequence.{after-append}
 use Rattle.rules.proofs.Theorem.{opened-width}
-use Rattle.rules.proofs.Staying.{moment, taken_at, yes_1_at, yes_3_at, rooms_at, stays}
+use Rattle.rules.proofs.Staying.{moment, stays}
 use Rattle.reach.specs.Reachable.{Dangling}
-use Rattle.reach.specs.Reading.{question2_read, reading_questions, questions_of}
-use Rattle.listing.specs.declared.Given.{Given}
-use Rattle.listing.specs.declared.Given.TheVariants.{Pixel, End}
-use Rattle.listing.specs.declared.Moved.{Moved}
-use Rattle.listing.specs.Next.{end_place, moved, Smallest, NoneAbove, Next, refused, no_place, dangling, given, ended}
-use Rattle.listing.specs.Refusals.{number_of}
+use Rattle.reach.specs.Reading.{questions_of}
+use Rattle.std.specs.Prelude.{None, Some, Ok}
+use Rattle.listing.specs.Next.{Given, Moved, end_place, moved, Smallest, NoneAbove, Next, refused, no_place, dangling, given, ended}
+use Rattle.settings.specs.Refusals.{outcome_no}
+use Rattle.settings.proofs.Refusals.{refusal_positive}
+use Rattle.reach.proofs.Moments.{answered_at, none-dangles_at}
 use Rattle.listing.specs.Sequence.{Step, event, next, events_in, state_at, place_after, is_pixel, times, Ends, Shows, Places, ListingMeets, ListingStatement, InBook, PlacedStatement}
 
 -- the two answers of a "next" that is not refused
 data Own (w : ℕ) (x : State) (place : ℕ) : Moved → Type 0 where
-  gives : {p : ℕ} → Smallest w (memory_of x.areas) place p → Own w x place (moved (Pixel p) (p + 1))
-  ends : place ≤ end_place → NoneAbove w (memory_of x.areas) place → Own w x place (moved End end_place)
+  gives : {p : ℕ} → Smallest w (memory_of x.areas) place p → Own w x place (moved (Ok (Some p)) (p + 1))
+  ends : place ≤ end_place → NoneAbove w (memory_of x.areas) place → Own w x place (moved (Ok None) end_place)
 
 own_next :
     {w : ℕ} {x : State} {place : ℕ} {m : Moved} → Next w x.settings (memory_of x.areas) place m
     → first_no (questions_of w x.settings (memory_of x.areas)) ≡ 0 → ¬ (Dangling w x.settings (memory_of x.areas)) → place ≤ end_place → Own w x place m
-own_next (refused h e) z d l = absurd (h (sym e ∙ z))
+own_next (refused {r} e) z d l = absurd (refusal_positive r (sym e ∙ z))
 own_next (no_place e h) z d l = absurd (omega arith)
 own_next (dangling e h f) z d l = absurd (d f)
 own_next (given e h S) z d l = gives S
 own_next (ended e h f n) z d l = ends h n
 
 module _ {w : ℕ} {x : State} {place : ℕ} where
-  own_number : {m : Moved} → Own w x place m → number_of m.given ≡ 0
-  unfolding number_of
+  own_number : {m : Moved} → Own w x place m → outcome_no m.given ≡ 0
   own_number (gives S) = refl
   own_number (ends l n) = refl
 
@@ -73,15 +71,15 @@ module _ {w : ℕ} {x : State} {place : ℕ} where
   own_other {p} (ends h n) e R l = absurd (n p R l)
 
   -- "end" and its place go together
-  own_end : {m : Moved} → Own w x place m → m.given ≡ End → m.place ≡ end_place
+  own_end : {m : Moved} → Own w x place m → m.given ≡ Ok None → m.place ≡ end_place
   own_end (gives S) e = let y : ◌≡◌ {A = ℕ} 0 1 = cc in absurd (omega arith)
   own_end (ends l n) e = refl
 
-  at_end : {m : Moved} → Own w x place m → end_place ≤ place → m.given ≡ End
+  at_end : {m : Moved} → Own w x place m → end_place ≤ place → m.given ≡ Ok None
   at_end (gives S) h = let a = S.above in let b = S.reachable.is_pixel_number in absurd (omega arith)
   at_end (ends l n) h = refl
 
-given_pixel : {p : ℕ} {g : Given} → g ≡ Pixel p → is_pixel p g ≡ true
+given_pixel : {p : ℕ} {g : Given} → g ≡ Ok (Some p) → is_pixel p g ≡ true
 unfolding is_pixel
 given_pixel {p} e = ap (is_pixel p) e ∙ eq-eqb p p refl
 
@@ -272,13 +270,10 @@ module _ {w : ℕ} (width : Width w) (s : Settings) (a : Areas) (z : (opening w 
 
   -- there questions 1 to 3 are answered yes, every reference names something taken, and what can be reached stays so
   asked_yes : {y : State} → On y → first_no (questions_of w y.settings (memory_of y.areas)) ≡ 0
-  unfolding reading_questions question2_read every
-  asked_yes o =
-      let (n, g) = rooms_at width s a z o.events in
-      rw o.is (all_yes _ (both_true (yes_1_at width s a z o.events) (both_true (both_true n g) (both_true (yes_3_at width s a z o.events) refl))))
+  asked_yes o = rw o.is (answered_at width s a z o.events)
 
   none-dangles : {y : State} → On y → ¬ (Dangling w y.settings (memory_of y.areas))
-  none-dangles o d = true_false (sym (taken_at width s a z o.events (rw o.is at d.reached)) ∙ (rw o.is at d.names_nothing))
+  none-dangles o = rw o.is (none-dangles_at width s a z o.events)
 
   shows_later : {y : State} (e : Event) → On y → (p : ℕ) → Shows w y p → Shows w (after (happens w e y)) p
   unfolding later

@@ -1,8 +1,9 @@
 -- Listings among starts and turns: "One "next" is a whole operation between two turns", and each listing's record is moved by its own "next" alone.
 -- Relies on Next for one answer, on rules for sequences.
-use Rattle.std.specs.Prelude.{ℕ, ◌+◌, ◌<◌, ◌≡◌, Bool, false, List, [], ◌∷◌, ◌++◌, eqb}
+use Rattle.std.specs.Prelude.{ℕ, ◌+◌, ◌<◌, ◌≡◌, Bool, false, None, Some, Ok, Err, List, [], ◌∷◌, ◌++◌, eqb}
 use Rattle.words.specs.Choice.{pick, both}
 use Rattle.settings.specs.declared.Settings.{Settings}
+use Rattle.settings.specs.Refusals.{outcome_no}
 use Rattle.areas.specs.Memory.{Areas}
 use Rattle.rules.specs.Operations.{opening, memory_of}
 use Rattle.rules.specs.Lists.{State, after}
@@ -10,11 +11,7 @@ use Rattle.rules.specs.Calls.{Event, state_after, Book, Holds}
 use Rattle.rules.specs.Demands.{Row}
 use Rattle.rules.specs.Refusals.{Iff}
 use Rattle.reach.specs.Reachable.{Reachable}
-use Rattle.listing.specs.declared.Given.{Given}
-use Rattle.listing.specs.declared.Given.TheVariants.{Refused, Pixel, End}
-use Rattle.listing.specs.declared.Moved.{Moved}
-use Rattle.listing.specs.Next.{Next, Above, end_place}
-use Rattle.listing.specs.Refusals.{number_of}
+use Rattle.listing.specs.Next.{Given, Moved, Next, Above, end_place}
 
 -- a start or a turn, or a "next" of listing k with what it gave and its place after it. There are any number of listings: each number names one.
 pub data Step : Type 0 where
@@ -50,9 +47,9 @@ Answered w x steps =
 
 -- what is given is pixel p
 unfoldable pub is_pixel : ℕ → Given → Bool
-is_pixel p (Refused n) = false
-is_pixel p (Pixel q) = eqb q p
-is_pixel p End = false
+is_pixel p (Ok (Some q)) = eqb q p
+is_pixel p (Ok None) = false
+is_pixel p (Err r) = false
 
 -- how many times pixel p comes in listing k
 unfoldable pub times : ℕ → ℕ → List Step → ℕ
@@ -66,7 +63,7 @@ pub record Ends (k : ℕ) (steps : List Step) : Type 0 where
   pub last : Moved
   pub rest : List Step
   pub cut : steps ≡ before ++ next k last ∷ rest
-  pub is_end : last.given ≡ End
+  pub is_end : last.given ≡ Ok None
 
 -- pixel p can be reached in this state
 abbrev pub Shows : ℕ → State → ℕ → Type 0
@@ -80,12 +77,12 @@ pub record Places (w : ℕ) (x : State) (e : Event) (p : ℕ) : Type 0 where
 -- what holds of every listing k of a sequence from a state x that a carried out opening left
 pub record ListingMeets (w : ℕ) (x : State) (k : ℕ) (steps : List Step) : Type 0 where
   -- excludes: a "next" that gives 6 amid a Move; one that refuses a place that it gave
-  pub carried : (before : List Step) (m : Moved) (rest : List Step) → steps ≡ before ++ next k m ∷ rest → number_of m.given ≡ 0
+  pub carried : (before : List Step) (m : Moved) (rest : List Step) → steps ≡ before ++ next k m ∷ rest → outcome_no m.given ≡ 0
   -- the place is that of the pixel given, or "end"
   -- excludes: a place that goes ahead to the next pixel, so that one placed between is missed; one that stays where it was
   pub moves_on :
       (before : List Step) (m : Moved) (rest : List Step) → steps ≡ before ++ next k m ∷ rest
-      → ((p : ℕ) → m.given ≡ Pixel p → m.place ≡ p + 1) × (m.given ≡ End → m.place ≡ end_place)
+      → ((p : ℕ) → m.given ≡ Ok (Some p) → m.place ≡ p + 1) × (m.given ≡ Ok None → m.place ≡ end_place)
   -- "pixels that could be reached when the listing began come exactly once": it is at "start", and comes to its "end"
   -- excludes: a walk by entries alone, which leaves out a node that hangs by a previous word amid a Move; a "next" that gives the first pixel found instead of the smallest
   pub once :
@@ -94,7 +91,7 @@ pub record ListingMeets (w : ℕ) (x : State) (k : ℕ) (steps : List Step) : Ty
   -- excludes: a "next" that gives the smallest of all pixels whatever its place; one that begins anew after a pixel is placed
   pub rising :
       (before : List Step) (m : Moved) (between : List Step) (m' : Moved) (rest : List Step) → steps ≡ before ++ next k m ∷ between ++ next k m' ∷ rest
-      → (p q : ℕ) → m.given ≡ Pixel p → m'.given ≡ Pixel q → p < q
+      → (p q : ℕ) → m.given ≡ Ok (Some p) → m'.given ≡ Ok (Some q) → p < q
   -- "A pixel placed meanwhile comes if it lies above the place when it is placed"
   -- excludes: a listing of the pixels that could be reached when it began; one that passes over a pixel placed behind a level that it had searched
   pub meanwhile :
@@ -109,11 +106,11 @@ pub record ListingMeets (w : ℕ) (x : State) (k : ℕ) (steps : List Step) : Ty
   -- excludes: a "next" that begins anew after "end"; one that gives a pixel that was placed after "end"
   pub over :
       (before : List Step) (m : Moved) (between : List Step) (m' : Moved) (rest : List Step) → steps ≡ before ++ next k m ∷ between ++ next k m' ∷ rest
-      → m.given ≡ End → m'.given ≡ End
+      → m.given ≡ Ok None → m'.given ≡ Ok None
   -- and only pixels that can be reached then come
   -- excludes: a "next" that gives the pixel of a spare node; one that gives a node's words before they are filled
   pub only_shown :
-      (before : List Step) (m : Moved) (rest : List Step) → steps ≡ before ++ next k m ∷ rest → (p : ℕ) → m.given ≡ Pixel p → Shows w (state_at w x before) p
+      (before : List Step) (m : Moved) (rest : List Step) → steps ≡ before ++ next k m ∷ rest → (p : ℕ) → m.given ≡ Ok (Some p) → Shows w (state_at w x before) p
 
 -- "In a sequence from a fresh table, with the record moved by "next" alone": for every carried out opening and every listing
 abbrev pub ListingStatement : ℕ → Settings → Type 0

@@ -10,7 +10,7 @@ use lib.Dec.{eqb, ltb}
 use lib.ListN.{length}
 use borrow.Author.Tests.{ne_eqb, eq-eqb, ltb-true}
 use Rattle.words.specs.Choice.{pick, every}
-use Rattle.words.proofs.Choice.{pick_true, pick_false, both_true}
+use Rattle.words.proofs.Choice.{pick-both, pick_true, pick_false, both_true}
 use Rattle.settings.specs.Sizes.{question1, question3, worker_words, views}
 use Rattle.settings.specs.Cut.{counted, first_three, Sized}
 use Rattle.settings.specs.declared.Settings.{Settings}
@@ -19,7 +19,6 @@ use Rattle.areas.specs.Memory.{Areas, areas}
 use Rattle.record.specs.declared.Answer.{Answer}
 use Rattle.record.specs.declared.Answer.TheVariants.{Nothing, Open}
 use Rattle.record.specs.declared.Exchange.{Exchange}
-use Rattle.record.specs.declared.Head.{Head}
 use Rattle.record.specs.declared.Reply.{Reply}
 use Rattle.record.specs.Kinds.{kind_no, answer_of}
 use Rattle.record.specs.Layout.{worker_place, head_at, store}
@@ -38,28 +37,11 @@ use Rattle.rules.proofs.Questions.{first-later}
 use Rattle.rules.proofs.Tells.{Tells, act_tells}
 use Rattle.table.specs.Cut.{first_four}
 use Rattle.table.proofs.Questions.{both_zero}
-use Rattle.turns.specs.Cut.{did, did_as}
-use Rattle.turns.specs.declared.Done.{Done}
+use Rattle.turns.specs.Cut.{Outcome, did, did_as}
 use Rattle.turns.proofs.Ways.{four_yes, four_inside}
-use Rattle.lists.specs.declared.Tally.{Tally}
-use Rattle.lists.specs.declared.Told.{Told}
-use Rattle.lists.specs.Cut.{Run, run, tally, counted_by, ran_of, ran_by, ran_entry, ran_list, number_by, told_by, told_reply, refused_turn, next_tally, open_tally}
-use Rattle.lists.proofs.Tells.{act-number}
-use Rattle.lists.proofs.Ways.{not_eight, turn-four, turn_open, entry_open, views_so}
-
--- the ways through its functions
-module _ (h : Head) where
-  pub number-full : {b : Bool} → b ≡ eqb (kind_no h.kind) 0 → b ≡ true → h.answer ≡ 3 → 9 ≡ number_by h
-  unfolding number_by
-  number-full e z y = sym (pick_true _ _ _ (sym e ∙ z) ∙ pick_true _ _ _ (eq-eqb _ _ y))
-
-  pub number-ended : {b : Bool} → b ≡ eqb (kind_no h.kind) 0 → b ≡ true → (h.answer ≡ 3 → ⊥) → 0 ≡ number_by h
-  unfolding number_by
-  number-ended e z y = sym (pick_true _ _ _ (sym e ∙ z) ∙ pick_false _ _ _ (ne_eqb _ _ y))
-
-  pub number_open : {b : Bool} → b ≡ eqb (kind_no h.kind) 0 → b ≡ false → 0 ≡ number_by h
-  unfolding number_by
-  number_open e z = sym (pick_false _ _ _ (sym e ∙ z))
+use Rattle.lists.specs.Cut.{Stand, Run, run, tally, counted_by, ran_of, ran_by, ran_entry, ran_list, number_by, told_reply, refused_turn, next_tally, open_tally}
+use Rattle.lists.proofs.Tells.{act_number}
+use Rattle.lists.proofs.Ways.{not_eight, turn_four, turn_open, entry_open, views_so}
 
 -- the numbers that a turn gives once questions 1 to 4 are answered yes
 data Among (n : ℕ) : Type 0 where
@@ -120,7 +102,7 @@ module _ (w : ℕ) (s : Settings) (i : ℕ) (a : Areas) where
       let t : Step = act w (views s i) s (record_of a i) (memory_of a) in
       let k : Tells (views s i) t = act_tells w (views s i) s (record_of a i) (memory_of a) q in
       let h : head_at (store t.record' i a.workers) i ≡ t.record'.head = head_stored w t.record' i a.workers room in
-      rw (h, act-number w (views s i) s (record_of a i) (memory_of a) q, k.answer_is) refl
+      rw (h, act_number w (views s i) s (record_of a i) (memory_of a) q, k.answer_is) refl
 
   full-told : worker_place i + 10 ≤ length a.workers → IsTold (full s i a)
   unfolding full full_record number_by last_of ended kind_no answer_of pick
@@ -154,7 +136,7 @@ module _ (w : ℕ) (s : Settings) (i : ℕ) (a : Areas) where
   refused_is n e p q = turn-refused w s i a (λ z. p (sym e ∙ z)) (λ z. q (sym e ∙ z)) ∙ ap (λ (k : ℕ). refused k s a) e
 
   -- what the tally of that list says of the turn: a 6, or what the record tells, with the tally's counts
-  module _ (t : Tally) {x : Areas} (g : ran_of s t x ≡ ran) where
+  module _ (t : Stand) {x : Areas} (g : ran_of s t x ≡ ran) where
     ran-six : its.reply.number ≡ 6 → ran_of s t x ≡ run 6 (state s a) 1 0 0
     unfolding ran_by
     ran-six n = g ∙ pick_true _ _ _ (eq-eqb _ _ n)
@@ -187,7 +169,7 @@ module _ (w : ℕ) (s : Settings) (i : ℕ) (a : Areas) where
 -- a turn of a worker with a call open, from the tally of a list of it alone
 module _ (s : Settings) (i : ℕ) (n g k : List ℕ) (o : refused_turn s.width s i (areas n g k) ≡ 0) where
   four : first_four s.width s i (length n) (length g) (length k) ≡ 0
-  four = turn-four s.width s i n g k o
+  four = turn_four s.width s i n g k o
 
   room : worker_place i + 10 ≤ length k
   unfolding worker_place
@@ -212,7 +194,7 @@ module _ (s : Settings) (i : ℕ) (n g k : List ℕ) (o : refused_turn s.width s
   one_below e = rw e (both_true (four_yes _ (both_zero (first_three s.width s (length n) (length g) (length k)) _ four).1) refl)
 
   -- what its entry requires, with nothing tallied yet
-  abbrev begun : Tally
+  abbrev begun : Stand
   begun = tally 0 s.nodes_taken s.levels_taken 1 0 0
 
   pub alone_three : first_three s.width (counted_by s begun) (length n) (length g) (length k) ≡ 0
@@ -226,20 +208,30 @@ module _ (s : Settings) (i : ℕ) (n g k : List ℕ) (o : refused_turn s.width s
   pub alone_open : 1 ≤ kind_no (head_at k i).kind
   alone_open = let y = turn_open s.width s i n g k o in omega arith
 
-  pub alone-ran : (u : Tally) {x : Areas} → ran_of s u x ≡ ran_entry s.width (ran_of s begun (areas n g k)) i → ran_of s u x ≡ ran_list s.width (i ∷ []) (run 0 (state s (areas n g k)) 1 0 0)
+  pub alone-ran : (u : Stand) {x : Areas} → ran_of s u x ≡ ran_entry s.width (ran_of s begun (areas n g k)) i → ran_of s u x ≡ ran_list s.width (i ∷ []) (run 0 (state s (areas n g k)) 1 0 0)
   unfolding ran_list counted
   alone-ran u e = e
 
   -- what it gives
-  module _ (t : Tally) {x : Areas} {l : List ℕ} (p : ran_of s t x ≡ ran_list s.width l (run 0 (state s (areas n g k)) 1 0 0)) (q : l ≡ i ∷ []) where
+  module _ (t : Stand) {x : Areas} {l : List ℕ} (p : ran_of s t x ≡ ran_list s.width l (run 0 (state s (areas n g k)) 1 0 0)) (q : l ≡ i ∷ []) where
     ran-alone : ran_of s t x ≡ ran s.width s i (areas n g k)
     ran-alone = p ∙ (ap (λ (y : List ℕ). ran_list s.width y (run 0 (state s (areas n g k)) 1 0 0)) q ∙ ran_one s.width s i (areas n g k))
 
     pub one_six : {r : Reply} → r ≡ reply 6 Nothing 0 s → t.number ≡ 6 → result_of r x ≡ turn s.width s i (areas n g k)
     one_six e z = rw e (on_six s.width s i (areas n g k) t ran-alone asked not-idle z)
 
-    pub one_told : {r : Reply} {d : Told} {c : Settings} → r ≡ reply d.number d.answer 0 c → d ≡ told_by (head_at x.workers i) → c ≡ counted_by s t → (t.number ≡ 6 → ⊥) → result_of r x ≡ turn s.width s i (areas n g k)
-    one_told e f c z = rw (e, f, c) (on_told s.width s i (areas n g k) t ran-alone asked not-idle room z)
+    -- a list has no number but 0 and 6
+    one_number : (t.number ≡ 0 → ⊥) → t.number ≡ 6
+    unfolding ran_by
+    one_number =
+        let SixOrNone : Run → Type 0 = λ u. (u.number ≡ 0 → ⊥) → u.number ≡ 6 in
+        subst SixOrNone (sym ran-alone) (pick-both SixOrNone _ (λ e z. refl) (λ e. pick-both SixOrNone _ (λ f z. absurd (z refl)) (λ f z. absurd (z refl))))
+
+    pub one_refused : {r : Reply} → r ≡ reply t.number Nothing 0 s → (t.number ≡ 0 → ⊥) → result_of r x ≡ turn s.width s i (areas n g k)
+    one_refused e z = let six = one_number z in one_six (e ∙ ap (λ (m : ℕ). reply m Nothing 0 s) six) six
+
+    pub one_told : {r : Reply} {c : Settings} → r ≡ told_reply (head_at x.workers i) c → c ≡ counted_by s t → (t.number ≡ 6 → ⊥) → result_of r x ≡ turn s.width s i (areas n g k)
+    one_told e c z = rw (e, c) (on_told s.width s i (areas n g k) t ran-alone asked not-idle room z)
 
     -- where the call is still open
     pub one_open : {r : Reply} {b : Bool} {c : Settings} → r ≡ reply 0 Open 0 c → b ≡ eqb (kind_no (head_at x.workers i).kind) 0 → b ≡ false → c ≡ counted_by s t → (t.number ≡ 6 → ⊥) → result_of r x ≡ turn s.width s i (areas n g k)
@@ -249,8 +241,8 @@ module _ (s : Settings) (i : ℕ) (n g k : List ℕ) (o : refused_turn s.width s
         rw (e, c) (ap₂ (λ (m : ℕ) (u : Answer). result_of (reply m u 0 (counted_by s t)) x) (sym (pick_false _ _ _ v)) (sym (pick_false _ _ _ v)) ∙ on_told s.width s i (areas n g k) t ran-alone asked not-idle room z)
 
   -- a viewer's turn, taken apart from a list: it leaves both counts
-  module _ (d : Done) {x : Areas} (e : did d x ≡ did_as s.width true s i (areas n g k)) {b : Bool} (v : b ≡ views s i) (y : b ≡ true) where
-    abbrev viewed : Tally
+  module _ (d : Outcome) {x : Areas} (e : did d x ≡ did_as s.width true s i (areas n g k)) {b : Bool} (v : b ≡ views s i) (y : b ≡ true) where
+    abbrev viewed : Stand
     viewed = open_tally begun d
 
     viewed-ran : ran_of s viewed x ≡ ran_list s.width (i ∷ []) (run 0 (state s (areas n g k)) 1 0 0)
@@ -259,13 +251,13 @@ module _ (s : Settings) (i : ℕ) (n g k : List ℕ) (o : refused_turn s.width s
 
     pub view_six : {r : Reply} → r ≡ reply 6 Nothing 0 s → d.number ≡ 6 → result_of r x ≡ turn s.width s i (areas n g k)
     unfolding open_tally
-    view_six f z = one_six viewed viewed-ran refl f (ap (λ (u : Tally). u.number) (pick_true _ _ _ (eq-eqb _ _ z)))
+    view_six f z = one_six viewed viewed-ran refl f (ap (λ (u : Stand). u.number) (pick_true _ _ _ (eq-eqb _ _ z)))
 
-    pub view_told : {r : Reply} {o : Told} → r ≡ reply o.number o.answer 0 s → o ≡ told_by (head_at x.workers i) → (d.nodes_taken ≡ s.nodes_taken) × (d.levels_taken ≡ s.levels_taken) → (d.number ≡ 6 → ⊥) → result_of r x ≡ turn s.width s i (areas n g k)
+    pub view_told : {r : Reply} → r ≡ told_reply (head_at x.workers i) s → (d.nodes_taken ≡ s.nodes_taken) × (d.levels_taken ≡ s.levels_taken) → (d.number ≡ 6 → ⊥) → result_of r x ≡ turn s.width s i (areas n g k)
     unfolding open_tally counted
-    view_told f j c z =
+    view_told f c z =
         let o : viewed ≡ next_tally begun d _ _ = pick_false _ _ _ (ne_eqb _ _ z) in
-        let p : viewed.nodes_taken ≡ s.nodes_taken = ap (λ (u : Tally). u.nodes_taken) o ∙ c.0 in
-        let q : viewed.levels_taken ≡ s.levels_taken = ap (λ (u : Tally). u.levels_taken) o ∙ c.1 in
-        let l : viewed.number ≡ 0 = ap (λ (u : Tally). u.number) o in
-        one_told viewed viewed-ran refl f j (sym (ap₂ (λ (a b : ℕ). counted s a b) p q)) (λ m. omega arith)
+        let p : viewed.nodes_taken ≡ s.nodes_taken = ap (λ (u : Stand). u.nodes_taken) o ∙ c.0 in
+        let q : viewed.levels_taken ≡ s.levels_taken = ap (λ (u : Stand). u.levels_taken) o ∙ c.1 in
+        let l : viewed.number ≡ 0 = ap (λ (u : Stand). u.number) o in
+        one_told viewed viewed-ran refl f (sym (ap₂ (λ (a b : ℕ). counted s a b) p q)) (λ m. omega arith)

@@ -3,7 +3,7 @@
 
 #![tactic(auto)]
 
-ghost use Rattle.std.specs.Prelude.{◌≡◌, true, false, ◌∷◌, ◌+◌, ◌-◌, ◌≤◌, ◌<◌, ltb, length};
+ghost use Rattle.std.specs.Prelude.{◌≡◌, true, false, ◌∷◌, ◌+◌, ◌-◌, ◌≤◌, ◌<◌, ltb, length, Ok, Err};
 ghost use Rattle.words.specs.Choice.{every, first_no};
 ghost use Rattle.settings.specs.Sizes.{views};
 ghost use Rattle.settings.specs.Cut.{first_three};
@@ -12,19 +12,19 @@ ghost use Rattle.record.specs.Kinds.{kind_no};
 ghost use Rattle.record.specs.Layout.{head_at};
 ghost use Rattle.rules.specs.Operations.{result_of, reply, turn};
 ghost use Rattle.rules.specs.Lists.{state, list_questions};
-ghost use Rattle.lists.specs.Cut.{run, counted_by, ran_of, six_tally, idle_tally, open_tally, next_tally, ran_entry, ran_list, number_by, told_by, idle_number, refused_turn};
+ghost use Rattle.rules.specs.Exchanges.{done_in, failed_in};
+ghost use Rattle.turns.specs.Cut.{done_at};
+ghost use Rattle.settings.specs.Refusals.{refusal_no, outcome_no};
+ghost use Rattle.lists.specs.Cut.{run, stand, went, ended, counted_by, ran_of, tally, idle_tally, open_tally, next_tally, ran_entry, ran_list, idle_number, refused_turn, told_reply};
 
 use record::{Answer, Exchange, Head, Reply, answer_at, idle_at, idle_fits};
-use settings::Settings;
-use table::{answer_in, is_idle, refusal, refused_worker, replied};
+use settings::{Refusal, Settings};
+use table::{answer_in, check_worker, refusal, replied};
 use turns::{Done, open_here, view_here};
-use words::{and, le, lt};
 
-// Where a list of turns stands: 0 or 6, nodes taken, levels taken, the turns that may still be done, and the exchanges done and failed. A turn changes no
-// other setting.
+// Where a list of turns stands: nodes taken, levels taken, the turns that may still be done, and the exchanges done and failed. A turn changes no other setting.
 #[derive(Clone, Copy)]
 pub struct Tally {
-    pub number: u32,
     pub nodes_taken: u32,
     pub levels_taken: u32,
     pub left: u32,
@@ -32,68 +32,78 @@ pub struct Tally {
     pub failed: u32,
 }
 
-// What a turn tells beside the settings: its number and its answer.
+// What a list of turns has come to, and the 6 that has ended it, if one has.
 #[derive(Clone, Copy)]
-pub struct Told {
-    pub number: u32,
-    pub answer: Answer,
+pub struct Ran {
+    pub tally: Tally,
+    pub outcome: Result<(), Refusal>,
 }
 
-// The tally after a 6: nothing else has changed.
-fn ended_six(t: Tally) -> Tally
-    ensures { result ≡ six_tally t }
-{
-    Tally {
-        number: 6,
-        nodes_taken: t.nodes_taken,
-        levels_taken: t.levels_taken,
-        left: t.left,
-        done: t.done,
-        failed: t.failed,
-    }
-}
+// The tally after an entry, or the 6 that ends the list there and leaves the tally.
+type Outcome = Result<Tally, Refusal>;
 
 // An entry whose worker is idle, by the number of its last answer: it is skipped, or its record does not fit.
-fn idle_entry(v: bool, t: Tally, answer: u32) -> Tally
-    ensures { result ≡ idle_tally v t answer }
+#[tactic(auto, unfolding(crate::specs::Cut::idle_tally, words::specs::Choice::pick))]
+fn idle_entry(v: bool, t: Tally, answer: u32) -> Outcome
+    ensures { went t result ≡ idle_tally v (stand 0 t) answer }
 {
     if idle_fits(v, answer) {
-        t
+        Ok(t)
     } else {
-        ended_six(t)
+        Err(Refusal::Memory)
     }
 }
 
-// The tally after a turn that was done, with the exchanges counted.
-fn next_tally(t: Tally, d: Done, done: u32, failed: u32) -> Tally
+// The tally after a turn that was done, with its counts and the exchanges counted.
+fn next_tally(t: Tally, nodes_taken: u32, levels_taken: u32, done: u32, failed: u32) -> Tally
     requires { 1 ≤ t.left }
-    ensures { result ≡ next_tally t d done failed }
+    ensures { stand 0 result ≡ tally 0 nodes_taken levels_taken (t.left - 1) done failed }
 {
     Tally {
-        number: 0,
-        nodes_taken: d.nodes_taken,
-        levels_taken: d.levels_taken,
+        nodes_taken,
+        levels_taken,
         left: t.left - 1,
-        done: done,
-        failed: failed,
+        done,
+        failed,
     }
 }
 
-// The tally after the turn of a worker with a call open: ended by a 6, else one turn less is left.
-fn tallied(t: Tally, d: Done) -> Tally
+// The tally after a turn of a worker with a call open that was done.
+#[tactic(auto, unfolding(rules::specs::Exchanges::done_in, rules::specs::Exchanges::failed_in))]
+fn done_tally(t: Tally, d: Done) -> Tally
     requires le_left { 1 ≤ t.left }
     requires left_bound { t.done + t.failed + t.left ≤ 4294967295 }
-    ensures { result ≡ open_tally t d }
+    ensures { stand 0 result ≡ next_tally (stand 0 t) (done_at t.nodes_taken t.levels_taken (Ok d)) (t.done + done_in d.exchange) (t.failed + failed_in d.exchange) }
 {
-    if d.number == 6 {
-        ended_six(t)
-    } else {
-        let e = d.exchange;
-        match e {
-            Exchange::None => next_tally(t, d, t.done, t.failed),
-            Exchange::Done => next_tally(t, d, t.done + 1, t.failed),
-            Exchange::Failed => next_tally(t, d, t.done, t.failed + 1),
-        }
+    match d.exchange {
+        Exchange::None => next_tally(t, d.nodes_taken, d.levels_taken, t.done, t.failed),
+        Exchange::Done => next_tally(t, d.nodes_taken, d.levels_taken, t.done + 1, t.failed),
+        Exchange::Failed => next_tally(t, d.nodes_taken, d.levels_taken, t.done, t.failed + 1),
+    }
+}
+
+// The tally after a turn of such a worker that was refused: a 6 ends the list, "full" is one turn less.
+#[tactic(auto, unfolding(crate::specs::Cut::open_tally, words::specs::Choice::pick))]
+fn refused_tally(t: Tally, r: Refusal) -> Outcome
+    requires { 1 ≤ t.left }
+    ensures { went t result ≡ open_tally (stand 0 t) (done_at t.nodes_taken t.levels_taken (Err r)) }
+{
+    match r {
+        Refusal::Memory => Err(Refusal::Memory),
+        _ => Ok(next_tally(t, t.nodes_taken, t.levels_taken, t.done, t.failed)),
+    }
+}
+
+// The tally after any turn of a worker with a call open.
+#[tactic(auto, unfolding(crate::specs::Cut::open_tally, words::specs::Choice::pick))]
+fn tallied(t: Tally, d: Result<Done, Refusal>) -> Outcome
+    requires le_left { 1 ≤ t.left }
+    requires left_bound { t.done + t.failed + t.left ≤ 4294967295 }
+    ensures { went t result ≡ open_tally (stand 0 t) (done_at t.nodes_taken t.levels_taken d) }
+{
+    match d {
+        Ok(d) => Ok(done_tally(t, d)),
+        Err(r) => refused_tally(t, r),
     }
 }
 
@@ -105,27 +115,18 @@ fn open_entry(
     nodes: &mut [u32],
     levels: &mut [u32],
     workers: &mut [u32],
-) -> Tally
+) -> Outcome
     requires le_left { 1 ≤ t.left }
     requires left_bound { t.done + t.failed + t.left ≤ 4294967295 }
-    requires number_value { t.number ≡ 0 }
-    requires workers_value { first_three s.width (counted_by s t) (length nodes.old) (length levels.old) (length workers.old) ≡ 0 }
+    requires workers_value { first_three s.width (counted_by s (stand 0 t)) (length nodes.old) (length levels.old) (length workers.old) ≡ 0 }
     requires i_lt_workers { i < s.workers }
     requires bound { 1 ≤ kind_no (head_at workers.old i).kind }
     requires i_value { views s i ≡ false }
-    ensures { ran_of s result (areas nodes.new levels.new workers.new) ≡ ran_entry s.width (ran_of s t (areas nodes.old levels.old workers.old)) i }
+    ensures { ran_of s (went t result) (areas nodes.new levels.new workers.new) ≡ ran_entry s.width (ran_of s (stand 0 t) (areas nodes.old levels.old workers.old)) i }
 {
     let n = s.with_counts(t.nodes_taken, t.levels_taken);
     let d = open_here(n, i, nodes, levels, workers);
     tallied(t, d)
-}
-
-// Worker i is a viewer, of settings in range: Settings::views without its test that the viewers are at most the workers.
-fn views_of(s: Settings, i: u32) -> bool
-    requires { s.viewers ≤ s.workers }
-    ensures { result ≡ views s i }
-{
-    le(s.workers - s.viewers, i)
 }
 
 // One entry of a list of turns that goes on.
@@ -136,45 +137,39 @@ fn entry(
     nodes: &mut [u32],
     levels: &mut [u32],
     workers: &mut [u32],
-) -> Tally
+) -> Outcome
     requires le_left { 1 ≤ t.left }
     requires left_bound { t.done + t.failed + t.left ≤ 4294967295 }
-    requires number_value { t.number ≡ 0 }
-    requires workers_value { first_three s.width (counted_by s t) (length nodes.old) (length levels.old) (length workers.old) ≡ 0 }
+    requires workers_value { first_three s.width (counted_by s (stand 0 t)) (length nodes.old) (length levels.old) (length workers.old) ≡ 0 }
     requires i_lt_workers { i < s.workers }
-    ensures { ran_of s result (areas nodes.new levels.new workers.new) ≡ ran_entry s.width (ran_of s t (areas nodes.old levels.old workers.old)) i }
+    ensures { ran_of s (went t result) (areas nodes.new levels.new workers.new) ≡ ran_entry s.width (ran_of s (stand 0 t) (areas nodes.old levels.old workers.old)) i }
 {
     if idle_at(workers, i) {
-        idle_entry(views_of(s, i), t, answer_at(workers, i))
+        idle_entry(s.views(i), t, answer_at(workers, i))
+    } else if s.views(i) {
+        let n = s.with_counts(t.nodes_taken, t.levels_taken);
+        let d = view_here(n, i, nodes, levels, workers);
+        tallied(t, d)
     } else {
-        if views_of(s, i) {
-            let n = s.with_counts(t.nodes_taken, t.levels_taken);
-            let d = view_here(n, i, nodes, levels, workers);
-            tallied(t, d)
-        } else {
-            open_entry(s, t, i, nodes, levels, workers)
-        }
+        open_entry(s, t, i, nodes, levels, workers)
     }
-}
-
-// A byte as a number of 32 bits.
-pub fn wide(x: u8) -> u32
-    ensures { result ≡ x }
-{
-    x as u32
 }
 
 // Every entry of a list is below n: question 4 of a list of turns.
 fn all_below(list: &[u8], n: u32) -> bool
     ensures { result ≡ every (λ i. ltb i n) list.now }
 {
-    let mut ok = true;
-    let mut k = 0;
-    while k < list.len() {
-        ok = and(lt(wide(list[k]), n), ok);
-        k += 1;
+    list.iter().all(|i| (*i as u32) < n)
+}
+
+// A list that no 6 has ended.
+fn carried_out(tally: Tally) -> Ran
+    ensures { ended result ≡ stand 0 tally }
+{
+    Ran {
+        tally,
+        outcome: Ok(()),
     }
-    ok
 }
 
 // The entries of a list, one after the other, until its limit is used up or a 6 is met: worker `first`, then those in `rest`. One turn is a list without a rest, so
@@ -187,13 +182,12 @@ pub fn run_list(
     nodes: &mut [u32],
     levels: &mut [u32],
     workers: &mut [u32],
-) -> Tally
+) -> Ran
     requires workers_value { first_three s.width s (length nodes.old) (length levels.old) (length workers.old) ≡ 0 }
     requires rest_value { every (λ i. ltb i s.workers) (first ∷ rest.now) ≡ true }
-    ensures { ran_of s result (areas nodes.new levels.new workers.new) ≡ ran_list s.width (first ∷ rest.now) (run 0 (state s (areas nodes.old levels.old workers.old)) limit 0 0) }
+    ensures { ran_of s (ended result) (areas nodes.new levels.new workers.new) ≡ ran_list s.width (first ∷ rest.now) (run 0 (state s (areas nodes.old levels.old workers.old)) limit 0 0) }
 {
     let mut t = Tally {
-        number: 0,
         nodes_taken: s.nodes_taken,
         levels_taken: s.levels_taken,
         left: limit,
@@ -201,97 +195,104 @@ pub fn run_list(
         failed: 0,
     };
     let mut i = first;
-    let mut k = 0;
+    let mut after = rest.iter();
     loop {
         if t.left == 0 {
-            return t;
+            return carried_out(t);
         }
-        t = entry(s, t, i, nodes, levels, workers);
-        if t.number == 0 {} else {
-            return t;
+        match entry(s, t, i, nodes, levels, workers) {
+            Ok(next) => t = next,
+            Err(r) => {
+                return Ran {
+                    tally: t,
+                    outcome: Err(r),
+                };
+            }
         }
-        if k == rest.len() {
-            return t;
+        match after.next() {
+            Some(worker) => i = u32::from(*worker),
+            None => return carried_out(t),
         }
-        i = wide(rest[k]);
-        k += 1;
     }
 }
 
-// One number less another, and 0 where the other is greater.
-fn less(n: u32, k: u32) -> u32
-    ensures { result ≡ n - k }
+// Questions 1 to 4 of a list of turns.
+#[tactic(auto, using(crate::proofs::Ways::list_first, settings::proofs::Refusals::refusal_positive), unfolding(rules::specs::Asked::question4_all, rules::specs::Asked::question4, words::specs::Choice::pick))]
+pub fn check_list(
+    s: Settings,
+    list: &[u8],
+    nodes: &[u32],
+    levels: &[u32],
+    workers: &[u32],
+) -> Result<(), Refusal>
+    ensures { outcome_no result ≡ first_no (list_questions s.width s list.now (areas nodes.now levels.now workers.now)) }
 {
-    if k <= n { n - k } else { 0 }
-}
-
-// Questions 1 to 4 of a list of turns: the number of the first no, or 0.
-pub fn refused_list(s: Settings, list: &[u8], nodes: &[u32], levels: &[u32], workers: &[u32]) -> u32
-    ensures { result ≡ first_no (list_questions s.width s list.now (areas nodes.now levels.now workers.now)) }
-{
-    let q = s.refused(nodes.len(), levels.len(), workers.len());
-    if q == 0 {
-        if all_below(list, s.workers) { 0 } else { 4 }
+    s.check(nodes.len(), levels.len(), workers.len())?;
+    if all_below(list, s.workers) {
+        Ok(())
     } else {
-        q
+        Err(Refusal::Worker)
     }
 }
 
 // What a list of turns gives at its end, with its settings then: the turns done are those that the limit has been counted down by.
-pub fn ended_list(s: Settings, t: Tally, limit: u32) -> Reply
-    ensures { result ≡ reply t.number Answer.Nothing (limit - t.left) s }
+pub fn ended_list(s: Settings, r: Ran, limit: u32) -> Reply
+    ensures { result ≡ reply (ended r).number Answer.Nothing (limit - r.tally.left) s }
 {
+    let reply = match r.outcome {
+        Ok(()) => replied(Answer::Nothing, s),
+        Err(q) => refusal(q, s),
+    };
     Reply {
-        number: t.number,
-        answer: Answer::Nothing,
-        turns: less(limit, t.left),
-        settings: s,
+        turns: limit.saturating_sub(r.tally.left),
+        ..reply
     }
 }
 
-// The number of a turn that was done, as its worker's head tells it: 9 where the call has ended "full".
-fn number_told(h: Head) -> u32
-    ensures { result ≡ number_by h }
+// What a turn of worker i that was done gives back, from its record after it: "full" is number 9.
+pub fn turn_reply(s: Settings, workers: &[u32], i: u32) -> Reply
+    ensures { result ≡ told_reply (head_at workers.now i) s }
 {
-    if is_idle(h) {
-        if h.answer == 3 { 9 } else { 0 }
-    } else {
-        0
-    }
-}
-
-// What a turn of worker i that was done tells, from its record after it.
-pub fn turn_told(workers: &[u32], i: u32) -> Told
-    ensures { result ≡ told_by (head_at workers.now i) }
-{
-    let h = Head::load(workers, i);
-    Told {
-        number: number_told(h),
-        answer: answer_in(h),
+    let answer = answer_in(Head::load(workers, i));
+    match answer {
+        Answer::Full => Reply {
+            number: Refusal::Full.into(),
+            answer,
+            turns: 0,
+            settings: s,
+        },
+        _ => replied(answer, s),
     }
 }
 
 // A turn of an idle worker is refused, by the number of its last answer; v says whether the worker is a viewer.
-fn idle_number(v: bool, answer: u32) -> u32
-    ensures { result ≡ idle_number v answer }
+#[tactic(auto, unfolding(crate::specs::Cut::idle_number, words::specs::Choice::pick))]
+fn idle_refusal(v: bool, answer: u32) -> Refusal
+    ensures { refusal_no result ≡ idle_number v answer }
 {
-    if idle_fits(v, answer) { 8 } else { 6 }
+    if idle_fits(v, answer) {
+        Refusal::Idle
+    } else {
+        Refusal::Memory
+    }
 }
 
-// The number that refuses a turn of worker i before its record is asked further, or 0: questions 1 to 4, and 8 or 6 of an idle worker.
-pub fn refused_turn(s: Settings, i: u32, nodes: &[u32], levels: &[u32], workers: &[u32]) -> u32
-    ensures { result ≡ refused_turn s.width s i (areas nodes.now levels.now workers.now) }
+// What refuses a turn of worker i before its record is asked further: questions 1 to 4, and 8 or 6 of an idle worker.
+#[tactic(auto, using(settings::proofs::Refusals::refusal_positive), unfolding(crate::specs::Cut::refused_turn, words::specs::Choice::pick))]
+pub fn check_turn(
+    s: Settings,
+    i: u32,
+    nodes: &[u32],
+    levels: &[u32],
+    workers: &[u32],
+) -> Result<(), Refusal>
+    ensures { outcome_no result ≡ refused_turn s.width s i (areas nodes.now levels.now workers.now) }
 {
-    let q = refused_worker(s, i, nodes, levels, workers);
-    if q == 0 {
-        if idle_at(workers, i) {
-            idle_number(s.views(i), answer_at(workers, i))
-        } else {
-            0
-        }
-    } else {
-        q
+    check_worker(s, i, nodes, levels, workers)?;
+    if !idle_at(workers, i) {
+        return Ok(());
     }
+    Err(idle_refusal(s.views(i), answer_at(workers, i)))
 }
 
 // A turn of a worker with a call open, as a list of one entry.
@@ -306,18 +307,19 @@ fn open_turn(
     ensures { result_of result (areas nodes.new levels.new workers.new) ≡ turn s.width s i (areas nodes.old levels.old workers.old) }
 {
     // no entry but this worker
-    let none = [0u8];
-    let t = run_list(s, i, &none[..0], 1, nodes, levels, workers);
-    if t.number == 6 {
-        refusal(6, s)
-    } else {
-        let d = turn_told(workers, i);
-        let a = d.answer;
-        replied(d.number, a, s.with_counts(t.nodes_taken, t.levels_taken))
+    let r = run_list(s, i, &[], 1, nodes, levels, workers);
+    match r.outcome {
+        Ok(()) => turn_reply(
+            s.with_counts(r.tally.nodes_taken, r.tally.levels_taken),
+            workers,
+            i,
+        ),
+        Err(q) => refusal(q, s),
     }
 }
 
 // One turn of worker i.
+#[tactic(auto, using(crate::proofs::Ways::turn_refused, settings::proofs::Refusals::refusal_positive))]
 pub fn turn(
     s: Settings,
     i: u32,
@@ -327,10 +329,8 @@ pub fn turn(
 ) -> Reply
     ensures { result_of result (areas nodes.new levels.new workers.new) ≡ turn s.width s i (areas nodes.old levels.old workers.old) }
 {
-    let q = refused_turn(s, i, nodes, levels, workers);
-    if q == 0 {
-        open_turn(s, i, nodes, levels, workers)
-    } else {
-        refusal(q, s)
+    match check_turn(s, i, nodes, levels, workers) {
+        Ok(()) => open_turn(s, i, nodes, levels, workers),
+        Err(r) => refusal(r, s),
     }
 }

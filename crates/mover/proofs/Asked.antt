@@ -4,7 +4,6 @@ use mathlib.Core.Path.{◌≡◌, ap, sym, ◌∙◌}
 use mathlib.Core.Bool.{Bool, true, false}
 use mathlib.Core.List.{List, [], ◌∷◌}
 use Prim.Native.Nat.{ℕ, suc, ◌+◌, ◌-◌, ◌≤◌, ◌<◌}
-use lib.Dec.{leb, eqb}
 use lib.ListN.{length}
 use borrow.Author.Tests.{ltb-true, leb-true, ne_eqb, lt-ltb, le-ltb}
 use native.Mathlib.Omega.{arith}
@@ -15,7 +14,7 @@ use Rattle.settings.specs.declared.Settings.{Settings}
 use Rattle.settings.specs.Sizes.{max_limit, max_nodes, max_moves, most_levels}
 use Rattle.settings.specs.Cut.{Sized}
 use Rattle.areas.specs.declared.Cell.{Cell}
-use Rattle.areas.specs.Memory.{Memory, memory, is_node, pixel_at, next_at, entry_cell, cell_at, node_taken, ref_taken}
+use Rattle.areas.specs.Memory.{Memory, is_node, next_at, cell_at, node_taken, ref_taken}
 use Rattle.record.specs.declared.Head.{Head}
 use Rattle.record.specs.declared.Move.{Move}
 use Rattle.rules.specs.Heads.{last_node}
@@ -29,49 +28,17 @@ use Rattle.mover.specs.Moved.{outer_node, Around}
 
 -- room to remember the word read
 module _ (s : Settings) (v : Inner) (word : ℕ) where
-  pub room_node : {r : Bool} → r ≡ leb (v.count + 1) s.limit → is_node word ≡ true → r ≡ room_in s v word
-  unfolding room_in pick
-  room_node a e = simp (e, a)
-
-  pub room_level : is_node word ≡ false → true ≡ room_in s v word
-  unfolding room_in pick
-  room_level e = simp e
-
-  -- where there is room, the nodes remembered after the word stay within the bound
-  pub room_most : word_asked s v word ≡ true → v.count ≤ max_limit → Sized s → (word_inner v word).count ≤ max_limit
-  unfolding word_asked room_in word_inner remember_in
-  room_most e h z =
+  pub room_left : word_asked s v word ≡ true → is_node word ≡ true → Sized s → v.count < max_limit
+  unfolding word_asked room_in
+  room_left e q z =
       let k : s.limit ≤ max_limit = z.ranges.limit.high in
-      pick-both (λ (i : Inner). i.count ≤ max_limit) (is_node word)
-      (λ q. let t : v.count + 1 ≤ s.limit = leb-true _ _ (sym (pick_true (is_node word) _ true q) ∙ both_right _ _ e) in omega arith)
-      (λ q. h)
+      let t : v.count + 1 ≤ s.limit = leb-true _ _ (sym (pick_true (is_node word) _ true q) ∙ both_right _ _ e) in
+      omega arith
 
--- the pixel of the node that is set, and its entry
-pub cell_way : (w : ℕ) (h : Head) (n : ℕ) (nodes levels : List ℕ) {x : Cell} {p : ℕ} → x ≡ entry_cell w levels h.level p → p ≡ pixel_at nodes n → x ≡ set_cell_of w h n (memory nodes levels)
-unfolding set_cell_of
-cell_way w h n nodes levels a b = simp (a, b)
-
--- the key of the innermost Move, and its entry
-module _ (v : Mover) (nodes : List ℕ) where
-  pub key_call : eqb v.moves 1 ≡ true → v.head.pixel ≡ key_cut v nodes
-  unfolding key_cut pick
-  key_call e = simp e
-
-  pub key_around : {r : ℕ} → r ≡ pixel_at nodes v.outer → eqb v.moves 1 ≡ false → r ≡ key_cut v nodes
-  unfolding key_cut pick
-  key_around a e = simp (e, a)
-
-  pub fits_call : (s : Settings) → eqb v.moves 1 ≡ true → true ≡ key_fits_cut s v nodes
-  unfolding key_fits_cut pick
-  fits_call s e = simp e
-
-  pub fits-around : (s : Settings) {r : Bool} → r ≡ pixel_fits s v.outer nodes → eqb v.moves 1 ≡ false → r ≡ key_fits_cut s v nodes
-  unfolding key_fits_cut pick
-  fits-around s a e = simp (e, a)
-
-  pub home_way : (w : ℕ) (levels : List ℕ) {x : Cell} {p : ℕ} → x ≡ entry_cell w levels v.inner.home p → p ≡ key_cut v nodes → x ≡ home_cut w v (memory nodes levels)
-  unfolding home_cut
-  home_way w levels a b = simp (a, b)
+  -- the nodes remembered after the word stay within the bound
+  pub room_most : word_asked s v word ≡ true → v.count ≤ max_limit → Sized s → (word_inner v word).count ≤ max_limit
+  unfolding word_inner remember_in
+  room_most e h z = pick-both (λ (i : Inner). i.count ≤ max_limit) (is_node word) (λ q. let t : v.count < max_limit = room_left e q z in omega arith) (λ q. h)
 
 -- what a yes says of numbers
 pub node_below : (s : Settings) (i : ℕ) → node_taken s i ≡ true → Sized s → i ≤ max_nodes
@@ -91,17 +58,17 @@ module _ (s : Settings) (h : Head) (n : ℕ) {r : Bool} where
   unfolding set_entry picks_in
   puts_level w m a e z = level_most s h.level (both_left _ _ (both_left _ (pixel_fits s n m.nodes) (via a e))) z
 
-  pub puts-last : (w : ℕ) (m : Memory) → r ≡ set_entry w s h n m → r ≡ true → Sized s → n ≤ max_nodes
+  pub puts_last : (w : ℕ) (m : Memory) → r ≡ set_entry w s h n m → r ≡ true → Sized s → n ≤ max_nodes
   unfolding set_entry pixel_fits
-  puts-last w m a e z = node_below s n (both_left _ _ (both_right (picks_in w s h.level m.levels) _ (via a e))) z
+  puts_last w m a e z = node_below s n (both_left _ _ (both_right (picks_in w s h.level m.levels) _ (via a e))) z
 
-  pub appends-level : r ≡ stands_setting s h n → r ≡ true → Sized s → h.level ≤ most_levels
+  pub appends_level : r ≡ stands_setting s h n → r ≡ true → Sized s → h.level ≤ most_levels
   unfolding stands_setting stands_at
-  appends-level a e z = level_most s h.level (both_left _ _ (both_left _ (node_taken s n) (via a e))) z
+  appends_level a e z = level_most s h.level (both_left _ _ (both_left _ (node_taken s n) (via a e))) z
 
-  pub appends-last : r ≡ stands_setting s h n → r ≡ true → Sized s → n ≤ max_nodes
+  pub appends_last : r ≡ stands_setting s h n → r ≡ true → Sized s → n ≤ max_nodes
   unfolding stands_setting
-  appends-last a e z = node_below s n (both_right (stands_at s h) _ (via a e)) z
+  appends_last a e z = node_below s n (both_right (stands_at s h) _ (via a e)) z
 
 module _ (w : ℕ) (s : Settings) (v : Mover) {r : Bool} where
   pub ends_child : (m : Memory) → r ≡ move_ends_cut w s v m → r ≡ true → Sized s → v.inner.child ≤ most_levels
@@ -173,11 +140,11 @@ module _ (w : ℕ) (s : Settings) (v : Mover) (a : Move) (os : List Move) (o : A
   pub cell_is : (m : Memory) → set_cell_of w v.head v.inner.last m ≡ set_cell_of w v.head (last_node a) m
   cell_is m = rw (last_is v a os o)
 
-  pub set-asked : {r b : Bool} → r ≡ set_nexts s v.head v.inner.last → r ≡ b → set_nexts s v.head (last_node a) ≡ b
-  set-asked p f = simp (← last_is v a os o, ← p, f)
+  pub set_asked : {r b : Bool} → r ≡ set_nexts s v.head v.inner.last → r ≡ b → set_nexts s v.head (last_node a) ≡ b
+  set_asked p f = simp (← last_is v a os o, ← p, f)
 
-  pub puts-asked : (m : Memory) {r b : Bool} → r ≡ set_entry w s v.head v.inner.last m → r ≡ b → set_entry w s v.head (last_node a) m ≡ b
-  puts-asked m p f = simp (← last_is v a os o, ← p, f)
+  pub puts_asked : (m : Memory) {r b : Bool} → r ≡ set_entry w s v.head v.inner.last m → r ≡ b → set_entry w s v.head (last_node a) m ≡ b
+  puts_asked m p f = simp (← last_is v a os o, ← p, f)
 
-  pub appends-asked : {r b : Bool} → r ≡ stands_setting s v.head v.inner.last → r ≡ b → stands_setting s v.head (last_node a) ≡ b
-  appends-asked p f = simp (← last_is v a os o, ← p, f)
+  pub appends_asked : {r b : Bool} → r ≡ stands_setting s v.head v.inner.last → r ≡ b → stands_setting s v.head (last_node a) ≡ b
+  appends_asked p f = simp (← last_is v a os o, ← p, f)

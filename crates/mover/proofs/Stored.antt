@@ -4,7 +4,7 @@ use mathlib.Core.Path.{◌≡◌, refl, ap, sym, ◌∙◌}
 use mathlib.Core.Bool.{Bool, true, false}
 use mathlib.Core.List.{List, [], ◌∷◌}
 use Prim.Native.Nat.{ℕ, zero, suc, ◌+◌, ◌*◌, ◌-◌, ◌≤◌, ◌<◌}
-use lib.Dec.{eqb, ltb, leb}
+use lib.Dec.{ltb}
 use lib.ListN.{length, get_or, set}
 use lib.Seq.{sets, get_or-set_other}
 use borrow.Author.Tests.{eq-eqb, ne_eqb, lt-ltb, le-ltb, lt-leb, ltb-true}
@@ -12,7 +12,7 @@ use native.Mathlib.Omega.{arith}
 use Rattle.words.specs.Choice.{pick}
 use Rattle.words.specs.Blocks.{cells}
 use Rattle.words.proofs.Blocks.{above_sets, sets-cells, get_d_cells, length-cells, sets_skip, set-sets, sets-set}
-use Rattle.settings.specs.Sizes.{head_words, move_words, max_limit, most_depth, worker_words}
+use Rattle.settings.specs.Sizes.{head_words, move_words, max_limit}
 use Rattle.record.specs.declared.Head.{Head}
 use Rattle.record.specs.declared.Move.{Move}
 use Rattle.record.specs.Kinds.{kind_no}
@@ -24,92 +24,6 @@ use Rattle.mover.specs.declared.Inner.{Inner}
 use Rattle.mover.specs.declared.Mover.{Mover}
 use Rattle.mover.specs.Words.{last_at, inner_at, outer_at, mover_at, Keeps, head_to, last_to, inner_on, inner_to, mover_to}
 use Rattle.mover.specs.Moved.{outer_node, inner_of, Around, move_after, list_after, Counts, as_many, one_move_more, one_less}
-
--- the ways through loading and storing
-pub last_way : (l : List ℕ) (p : ℕ) {r i c : ℕ} → r ≡ get_or l (p + 3 + i) 0 → i ≡ c - 1 → c ≡ get_or l (p + 2) 0 → r ≡ last_at l p
-unfolding last_at
-last_way l p a b c = simp (a, b, c)
-
-pub inner_way :
-    (l : List ℕ) (p : ℕ) {k : ℕ}
-    → k ≡ get_or l (p + 2) 0 - 1 → record { home = get_or l p 0; child = get_or l (p + 1) 0; count = get_or l (p + 2) 0; last = get_or l (p + 3 + k) 0 } ≡ inner_at l p
-unfolding inner_at last_at
-inner_way l p a = simp a
-
-module _ (v : Inner) (p : ℕ) (l : List ℕ) where
-  pub last_more :
-      {l' : List ℕ} → l' ≡ set l (p + 2 + v.count) v.last → ltb (get_or l (p + 2) 0) v.count ≡ true → l' ≡ last_to v p l
-  unfolding last_to pick
-  last_more a e = simp (e, a)
-
-  pub last_none : ltb (get_or l (p + 2) 0) v.count ≡ false → l ≡ last_to v p l
-  unfolding last_to pick
-  last_none e = simp e
-
-  pub on_way : {l₁ : List ℕ} → l₁ ≡ last_to v p l → set l₁ (p + 2) v.count ≡ inner_on v p l
-  unfolding inner_on
-  on_way a = simp a
-
-module _ (l : List ℕ) (i : ℕ) where
-  -- the innermost Move lies inside the worker's words, since a worker has few enough of them
-  pub move_there :
-      {n m j p : ℕ}
-      → p ≡ move_place i j → j ≡ n - 1 → n ≡ m → m ≤ most_depth → worker_words * i + worker_words ≤ length l → p + move_words ≤ length l
-  unfolding move_place worker_place
-  move_there a b e c h = omega arith
-
-  -- and the number of nodes that it remembers is read there
-  pub count_there :
-      {n j p : ℕ}
-      → p ≡ move_place i j → j ≡ n - 1 → n ≡ moves_at l i → (move_at l i (moves_at l i - 1)).count ≤ max_limit → get_or l (p + 2) 0 ≤ max_limit
-  unfolding move_at move_from
-  count_there a b e c = rw (a, b, e) c
-
-  pub outer-none : (n : ℕ) → leb n 1 ≡ true → 0 ≡ outer_at l i n
-  unfolding outer_at pick
-  outer-none n e = simp e
-
-  pub outer-last : (n : ℕ) {r p : ℕ} → r ≡ last_at l p → p ≡ move_place i (n - 2) → leb n 1 ≡ false → r ≡ outer_at l i n
-  unfolding outer_at pick
-  outer-last n a b e = simp (e, a, b)
-
-  pub load_way :
-      (h : Head) {n j p o : ℕ} {v : Inner}
-      → o ≡ outer_at l i n → v ≡ inner_at l p → p ≡ move_place i j → j ≡ n - 1 → n ≡ moves_at l i
-      → record { head = h; moves = n; inner = v; outer = o } ≡ mover_at l i h
-  unfolding mover_at
-  load_way h a b c d e = simp (a, b, c, d, e)
-
-  pub head_way :
-      (h : Head) (n : ℕ) {l₁ l₂ l₃ l₄ : List ℕ} {p k : ℕ}
-      → l₄ ≡ set l₃ (p + 9) n → l₃ ≡ set l₂ (p + 6) h.held_level → l₂ ≡ sets l₁ (p + 2) (h.level ∷ h.node ∷ h.count ∷ []) → l₁ ≡ set l p k
-      → p ≡ worker_place i → k ≡ kind_no h.kind → l₄ ≡ head_to h n i l
-  unfolding head_to
-  head_way h n a b c d e f = simp (a, b, c, d, e, f)
-
-  module _ (before : ℕ) (v : Mover) where
-    pub inner_changed :
-        {l' : List ℕ} {p j : ℕ}
-        → l' ≡ inner_on v.inner p l → p ≡ move_place i j → j ≡ v.moves - 1 → eqb v.moves before ≡ true → l' ≡ inner_to before v i l
-    unfolding inner_to pick
-    inner_changed a b c e = simp (e, a, b, c)
-
-    pub inner-begun :
-        {l' : List ℕ} {x : Move} {j : ℕ}
-        → l' ≡ move_to x (move_place i j) l → x ≡ new_move v.inner.home v.inner.child → j ≡ v.moves - 1
-        → eqb v.moves before ≡ false → ltb before v.moves ≡ true → l' ≡ inner_to before v i l
-    unfolding inner_to pick
-    inner-begun a b c e f = simp (e, f, a, b, c)
-
-    pub inner_ended : eqb v.moves before ≡ false → ltb before v.moves ≡ false → l ≡ inner_to before v i l
-    unfolding inner_to pick
-    inner_ended e f = simp (e, f)
-
-  pub store_way :
-      (v : Mover) {l₁ l₂ : List ℕ} {n : ℕ}
-      → l₂ ≡ inner_to n v i l₁ → l₁ ≡ head_to v.head v.moves i l → n ≡ moves_at l i → l₂ ≡ mover_to v i l
-  unfolding mover_to
-  store_way v a b c = simp (a, b, c)
 
 -- a loaded mover: its innermost Move and those around it are the Moves in the words
 last_from : (l : List ℕ) (p : ℕ) → (move_from l p).count ≤ max_limit → last_at l p ≡ last_node (move_from l p)

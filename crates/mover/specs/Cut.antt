@@ -17,14 +17,14 @@ use Rattle.rules.specs.Steps.{expected, peeked, more, child_of}
 use Rattle.rules.specs.Asked.{picks_in, pixel_fits, set_follows_ref}
 use Rattle.mover.specs.declared.Inner.{Inner}
 use Rattle.mover.specs.declared.Mover.{Mover}
-use Rattle.mover.specs.declared.Moved.{Moved}
+use Rattle.mover.specs.Moved.{Gave}
 
-abbrev pub moved_of : ℕ → Answer → Settings → Head → ℕ → Inner → ℕ → Moved
+abbrev pub moved_of : ℕ → Answer → Settings → Head → ℕ → Inner → ℕ → Gave
 moved_of n a s h k v o =
     record { number = n; answer = a; settings = s; mover = record { head = h; moves = k; inner = v; outer = o } }
 
 -- the call goes on with as many Moves, the innermost now i
-abbrev pub stays : Mover → Settings → Head → Inner → Moved
+abbrev pub stays : Mover → Settings → Head → Inner → Gave
 stays v s h i = moved_of 0 Open s h v.moves i v.outer
 
 -- one node more is remembered; the last one is forgotten
@@ -35,7 +35,7 @@ unfoldable pub forget_in : Inner → Inner
 forget_in v = record { home = v.home; child = v.child; count = v.count - 1; last = v.last }
 
 -- question 6 is answered no: everything stays
-abbrev pub refuses : Mover → Settings → Moved
+abbrev pub refuses : Mover → Settings → Gave
 refuses v s = moved_of 6 Nothing s v.head v.moves v.inner v.outer
 
 -- the key of the innermost Move and its entry in the level whose chain moves
@@ -81,45 +81,39 @@ unfoldable pub follow_head : ℕ → Settings → Head → ℕ → List ℕ → 
 follow_head w s h word levels = met_head h (more s h.count) (child_of w levels (last_depth w) h.level (named word)) word
 
 -- SetPut, SetAppend: the node remembered last is set
-abbrev pub set_done : Mover → Settings → Moved
+abbrev pub set_done : Mover → Settings → Gave
 set_done v s = stays v s (last_head v.head (forget_in v.inner)) (forget_in v.inner)
 
 -- SetClose: a Move to the level in hand has begun inside
-abbrev pub begun_cut : Mover → Settings → Moved
+abbrev pub begun_cut : Mover → Settings → Gave
 begun_cut v s =
     moved_of 0 Open s (holding_level ChainHead 0 v.head) (v.moves + 1)
     (record { home = v.head.level; child = v.head.held_level - 1; count = 0; last = 0 }) v.inner.last
 
 -- a word read, or met by a failed exchange: question 6, the rest of it asked before, then what SetLook and SetTail, SetRead, SetFollow do with it
-unfoldable pub peek_met : Bool → Mover → Settings → ℕ → Kind → Kind → Moved
+unfoldable pub peek_met : Bool → Mover → Settings → ℕ → Kind → Kind → Gave
 peek_met before v s word here other = pick (both before (ref_taken s word)) (stays v s (peeked v.head word here other) v.inner) (refuses v s)
 
-unfoldable pub read_met : Bool → Mover → Settings → ℕ → Moved
+unfoldable pub read_met : Bool → Mover → Settings → ℕ → Gave
 read_met before v s word = pick (both before (ref_taken s word)) (stays v s (met_head v.head 1 (named word) word) v.inner) (refuses v s)
 
-unfoldable pub follow_met : Bool → ℕ → Mover → Settings → ℕ → List ℕ → Moved
+unfoldable pub follow_met : Bool → ℕ → Mover → Settings → ℕ → List ℕ → Gave
 follow_met before w v s word levels =
     pick (both before (set_follows_ref w s v.head word levels)) (stays v s (follow_head w s v.head word levels) v.inner) (refuses v s)
 
 -- the word that an exchange met: the level that N is set into, and it is done; another, and it failed
-unfoldable pub put_met : Mover → Settings → ℕ → Moved
+unfoldable pub put_met : Mover → Settings → ℕ → Gave
 put_met v s word = pick (expected v.head word) (set_done v s) (read_met true v s word)
 
-unfoldable pub append_met : ℕ → Mover → Settings → ℕ → List ℕ → Moved
-append_met w v s word levels = pick (expected v.head word) (set_done v s) (follow_met true w v s word levels)
-
-unfoldable pub close_met : ℕ → Mover → Settings → ℕ → List ℕ → Moved
-close_met w v s word levels = pick (expected v.head word) (begun_cut v s) (follow_met true w v s word levels)
-
--- SetClose where no Move more has room: done, the exchange would begin one, so it is refused
-unfoldable pub close_no_room : ℕ → Mover → Settings → ℕ → List ℕ → Moved
-close_no_room w v s word levels = pick (expected v.head word) (refuses v s) (follow_met true w v s word levels)
+-- the word that SetAppend's or SetClose's exchange met; where no Move more has room, SetClose's done is a refusal
+unfoldable pub next_met : Gave → ℕ → Mover → Settings → ℕ → List ℕ → Gave
+next_met done w v s word levels = pick (expected v.head word) done (follow_met true w v s word levels)
 
 -- MoveEnd: one Move less
 unfoldable pub end_head : Mover → Head
 end_head v = pick (eqb v.moves 1) (to_level Look v.inner.child v.head) (to_level SetNext v.inner.child v.head)
 
-abbrev pub ends : Mover → Settings → Moved
+abbrev pub ends : Mover → Settings → Gave
 ends v s = moved_of 0 Open s (end_head v) (v.moves - 1) v.inner v.outer
 
 -- the kinds of turn of a Move

@@ -1,10 +1,14 @@
 -- How a mover, which holds of the innermost Move only what a turn needs, stands for a record with all its Moves, and what its methods give. This
 -- follows the code's cut and is tied to the definitions of the operations by lemmas. Relies on rules for the turns, on steps for what a method gives.
-use Rattle.std.specs.Prelude.{ℕ, suc, ◌+◌, ◌-◌, ◌≤◌, ◌≡◌, Bool, List, [], ◌∷◌, eqb, ltb, length, set}
+use Rattle.std.specs.Prelude.{ℕ, suc, ◌+◌, ◌-◌, ◌≤◌, ◌≡◌, Bool, List, [], ◌∷◌, Result, Ok, Err, eqb, ltb, length, set}
 use Rattle.words.specs.Choice.{pick}
 use Rattle.settings.specs.Sizes.{max_limit}
+use Rattle.settings.specs.declared.Refusal.{Refusal}
 use Rattle.settings.specs.declared.Settings.{Settings}
+use Rattle.settings.specs.Refusals.{refusal_no}
 use Rattle.areas.specs.Memory.{Memory}
+use Rattle.record.specs.declared.Answer.{Answer}
+use Rattle.record.specs.declared.Answer.TheVariants.{Nothing, Open}
 use Rattle.record.specs.declared.Move.{Move}
 use Rattle.record.specs.Layout.{new_move}
 use Rattle.rules.specs.Heads.{last_node}
@@ -13,6 +17,18 @@ use Rattle.steps.specs.Tried.{Tried, tried, unless_six}
 use Rattle.mover.specs.declared.Inner.{Inner}
 use Rattle.mover.specs.declared.Mover.{Mover}
 use Rattle.mover.specs.declared.Moved.{Moved}
+
+-- what a moving turn gives: its number (0 or 6), answer, settings, and the advanced mover
+pub record Gave : Type 0 where
+  pub number : ℕ
+  pub answer : Answer
+  pub settings : Settings
+  pub mover : Mover
+
+-- a turn that is done leaves its call open; one that is refused leaves everything
+abbrev pub gave : Mover → Settings → Result Moved Refusal → Gave
+gave v s (Ok r) = record { number = 0; answer = Open; settings = r.settings; mover = r.mover }
+gave v s (Err r) = record { number = refusal_no r; answer = Nothing; settings = s; mover = v }
 
 -- the last node of the Move around the innermost one, 0 where there is none
 unfoldable pub outer_node : List Move → ℕ
@@ -51,12 +67,12 @@ pub data Counts (v v' : Mover) : Type 0 where
   one_move_more : v'.moves ≡ v.moves + 1 → Counts v v'
   one_less : v'.moves + 1 ≡ v.moves → Counts v v'
 
-abbrev pub moved : Mover → Moved → Move → List Move → Memory → Tried
+abbrev pub moved : Mover → Gave → Move → List Move → Memory → Tried
 moved v r a os m = tried r.number (step r.answer r.settings r.mover.head (list_after v r.mover a os) m)
 
 -- a method gives the turn, unless its part of question 6 is answered no; whatever the innermost Move is besides, and whatever the Moves around are.
 -- And the Moves' number and the nodes remembered stay within bounds, so that what is stored stays within the record.
-pub record Gives (v : Mover) (s : Settings) (m : Memory) (r : Moved) (m' : Memory) (asks : Move → List Move → Bool) (acts : Move → List Move → Step) : Type 0 where
+pub record Gives (v : Mover) (s : Settings) (m : Memory) (r : Gave) (m' : Memory) (asks : Move → List Move → Bool) (acts : Move → List Move → Step) : Type 0 where
   pub gives : (a : Move) (os : List Move) → Around v a os → moved v r a os m' ≡ unless_six (asks a os) s v.head (a ∷ os) m (tried 0 (acts a os))
   pub counts : Counts v r.mover
   pub most : v.inner.count ≤ max_limit → r.mover.inner.count ≤ max_limit

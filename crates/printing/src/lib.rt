@@ -1,11 +1,14 @@
 // What the program prints: a header, rows of ended calls, refusals and the end line, as bytes.
-// Relies on text for the bytes that part fields and lines. Nothing here knows the table.
+// Relies on text for the bytes that part fields and lines, on arrayvec for lines. Nothing here knows the table.
 
 #![tactic(auto)]
 
-ghost use Rattle.std.specs.Prelude.{◌≡◌, [], ◌∷◌, ◌++◌, ◌+◌, ◌%◌, ◌≤◌, length, take, drop};
+ghost use Rattle.std.specs.Prelude.{◌≡◌, [], ◌∷◌, ◌++◌, ◌+◌, ◌%◌, ◌≤◌, length};
+ghost use Rattle.arrayvec.specs.ArrayVec.{array_vec_len};
 ghost use Rattle.text.specs.Parts.{comma, line_end};
-ghost use Rattle.printing.specs.Printing.{decimal, call_bytes, bytes_of};
+ghost use Rattle.printing.specs.Printing.{decimal_in, decimal, call_bytes, bytes_of};
+
+use arrayvec::ArrayVec;
 
 // What is printed at once. New and Found: worker, pixel, node. Full and Absent: worker, pixel. Refused: line, number. End: nodes taken, levels taken.
 #[derive(Clone, Copy)]
@@ -20,122 +23,105 @@ pub enum Printed {
     End(u32, u32),
 }
 
-// The bytes of src are put behind the first `at` of out.
-fn put_bytes(out: &mut [u8], at: usize, src: &[u8]) -> usize
-    requires { at + length src.now ≤ length out.old }
-    ensures { (result ≡ at + length src.now) × (take result out.new ≡ take at out.old ++ src.now) }
+// The bytes that are printed at once.
+pub type Line = ArrayVec<u8, 64>;
+
+// The bytes of src are put behind those of out.
+fn put(out: &mut Line, src: &[u8])
+    requires { array_vec_len out.old + length src.now ≤ 64 }
+    ensures { out.new.items ≡ out.old.items ++ src.now }
 {
-    let mut k = 0;
-    while k < src.len() {
-        out[at + k] = src[k];
-        k += 1;
+    out.try_extend_from_slice(src).unwrap();
+}
+
+// The bytes of src.
+fn line_of(src: &[u8]) -> Line
+    requires { length src.now ≤ 64 }
+    ensures { result.items ≡ src.now }
+{
+    Line::try_from(src).unwrap()
+}
+
+// The last k + 1 digits of n, without zeros in front.
+fn put_digits(out: &mut Line, k: u32, n: u32)
+    requires { array_vec_len out.old + k + 1 ≤ 64 }
+    ensures digits { out.new.items ≡ out.old.items ++ decimal_in k n }
+    ensures bound { array_vec_len out.new ≤ array_vec_len out.old + k + 1 }
+{
+    if 0 < k && 10 <= n {
+        put_digits(out, k - 1, n / 10);
     }
-    at + k
+    out.push(b'0' + (n % 10) as u8);
 }
 
-// The byte of n's last digit.
-fn last_digit(n: u32) -> u8
-    ensures { result ≡ 48 + n % 10 }
+// The last five digits of a number.
+fn put_decimal(out: &mut Line, n: u32)
+    requires { array_vec_len out.old + 5 ≤ 64 }
+    ensures digits { out.new.items ≡ out.old.items ++ decimal n }
+    ensures bound { array_vec_len out.new ≤ array_vec_len out.old + 5 }
 {
-    48 + (n % 10) as u8
-}
-
-// The digits of n are written to the end of d, the last one first, and the place of the first is handed back.
-fn digits(d: &mut [u8], n: u32) -> usize
-    requires { length d.old ≡ 5 }
-    ensures { (result ≤ 4) × (drop result d.new ≡ decimal n) }
-{
-    let mut i = 4;
-    let mut m = n;
-    while 0 < i {
-        d[i] = last_digit(m);
-        if m < 10 {
-            return i;
-        }
-        m = m / 10;
-        i -= 1;
-    }
-    d[0] = last_digit(m);
-    0
-}
-
-// The last five digits of a number are put behind the first `at` of out.
-fn put_decimal(out: &mut [u8; 64], at: usize, n: u32) -> usize
-    requires { at + 5 ≤ 64 }
-    ensures { (result ≤ at + 5) × (take result out.new ≡ take at out.old ++ decimal n) × (length out.new ≡ 64) }
-{
-    let mut d = [0u8; 5];
-    let i = digits(&mut d, n);
-    put_bytes(out, at, &d[i..])
+    put_digits(out, 4, n);
 }
 
 // A number, and behind it the byte b.
-fn put_number(out: &mut [u8; 64], at: usize, n: u32, b: u8) -> usize
-    requires { at + 6 ≤ 64 }
-    ensures { (result ≤ at + 6) × (take result out.new ≡ take at out.old ++ decimal n ++ (b ∷ [])) }
+fn put_number(out: &mut Line, n: u32, b: u8)
+    requires { array_vec_len out.old + 6 ≤ 64 }
+    ensures number { out.new.items ≡ out.old.items ++ decimal n ++ (b ∷ []) }
+    ensures bound { array_vec_len out.new ≤ array_vec_len out.old + 6 }
 {
-    let k = put_decimal(out, at, n);
-    out[k] = b;
-    k + 1
+    put_decimal(out, n);
+    out.push(b);
 }
 
-// The fields before an answer: worker, row, column.
-fn put_call(out: &mut [u8; 64], worker: u32, pixel: u32) -> usize
-    ensures { (result ≤ 17) × (take result out.new ≡ call_bytes worker pixel) }
+// A call that ended: worker, row, column, and behind them the bytes of its answer.
+#[tactic(auto, unfolding(crate::specs::Printing::call_bytes))]
+fn ended(worker: u32, pixel: u32, answer: &[u8]) -> Line
+    requires { length answer.now ≤ 16 }
+    ensures bytes { result.items ≡ call_bytes worker pixel ++ answer.now }
+    ensures bound { array_vec_len result ≤ 17 + length answer.now }
 {
-    let a = put_number(out, 0, worker, 44);
-    let b = put_number(out, a, pixel / 4096, 44);
-    put_decimal(out, b, pixel % 4096)
+    let mut out = Line::new();
+    put_number(&mut out, worker, b',');
+    put_number(&mut out, pixel / 4096, b',');
+    put_decimal(&mut out, pixel % 4096);
+    put(&mut out, answer);
+    out
 }
 
 // The row of a call that ended with a node.
-fn put_row(out: &mut [u8; 64], worker: u32, pixel: u32, answer: &[u8], node: u32) -> usize
+fn row(worker: u32, pixel: u32, answer: &[u8], node: u32) -> Line
     requires { length answer.now ≤ 16 }
-    ensures { take result out.new ≡ call_bytes worker pixel ++ answer.now ++ decimal node ++ (line_end ∷ []) }
+    ensures { result.items ≡ call_bytes worker pixel ++ answer.now ++ decimal node ++ (line_end ∷ []) }
 {
-    let a = put_call(out, worker, pixel);
-    let b = put_bytes(out, a, answer);
-    put_number(out, b, node, 10)
-}
-
-// The row of a call that ended full.
-fn put_full(out: &mut [u8; 64], worker: u32, pixel: u32) -> usize
-    ensures { take result out.new ≡ bytes_of (Printed.Full worker pixel) }
-{
-    let a = put_call(out, worker, pixel);
-    put_bytes(out, a, b",full,-\n")
-}
-
-// The row of a call that ended absent.
-fn put_absent(out: &mut [u8; 64], worker: u32, pixel: u32) -> usize
-    ensures { take result out.new ≡ bytes_of (Printed.Absent worker pixel) }
-{
-    let a = put_call(out, worker, pixel);
-    put_bytes(out, a, b",absent,-\n")
+    let mut out = ended(worker, pixel, answer);
+    put_number(&mut out, node, b'\n');
+    out
 }
 
 // A word with a comma behind it, and two numbers.
-fn put_pair(out: &mut [u8; 64], word: &[u8], m: u32, n: u32) -> usize
+fn pair(word: &[u8], m: u32, n: u32) -> Line
     requires { length word.now ≤ 16 }
-    ensures { take result out.new ≡ word.now ++ decimal m ++ (comma ∷ []) ++ decimal n ++ (line_end ∷ []) }
+    ensures { result.items ≡ word.now ++ decimal m ++ (comma ∷ []) ++ decimal n ++ (line_end ∷ []) }
 {
-    let a = put_bytes(out, 0, word);
-    let b = put_number(out, a, m, 44);
-    put_number(out, b, n, 10)
+    let mut out = line_of(word);
+    put_number(&mut out, m, b',');
+    put_number(&mut out, n, b'\n');
+    out
 }
 
-// The bytes of what is printed are put at the start of out.
-pub fn spell(p: Printed, out: &mut [u8; 64]) -> usize
-    ensures { take result out.new ≡ bytes_of p }
+// The bytes of what is printed. It is no Display: that of a number prints all its digits, and bytes_of has the last five.
+#[tactic(auto, unfolding(crate::specs::Printing::bytes_of, text::specs::Parts::ascii))]
+pub fn spell(p: Printed) -> Line
+    ensures { result.items ≡ bytes_of p }
 {
     match p {
-        Printed::Nothing => 0,
-        Printed::Header => put_bytes(out, 0, b"worker,row,column,answer,node\n"),
-        Printed::New(worker, pixel, node) => put_row(out, worker, pixel, b",new,", node),
-        Printed::Found(worker, pixel, node) => put_row(out, worker, pixel, b",found,", node),
-        Printed::Full(worker, pixel) => put_full(out, worker, pixel),
-        Printed::Absent(worker, pixel) => put_absent(out, worker, pixel),
-        Printed::Refused(line, number) => put_pair(out, b"refused,", line, number),
-        Printed::End(nodes, levels) => put_pair(out, b"end,", nodes, levels),
+        Printed::Nothing => Line::new(),
+        Printed::Header => line_of(b"worker,row,column,answer,node\n"),
+        Printed::New(worker, pixel, node) => row(worker, pixel, b",new,", node),
+        Printed::Found(worker, pixel, node) => row(worker, pixel, b",found,", node),
+        Printed::Full(worker, pixel) => ended(worker, pixel, b",full,-\n"),
+        Printed::Absent(worker, pixel) => ended(worker, pixel, b",absent,-\n"),
+        Printed::Refused(line, number) => pair(b"refused,", line, number),
+        Printed::End(nodes, levels) => pair(b"end,", nodes, levels),
     }
 }

@@ -3,24 +3,24 @@
 use mathlib.Core.Path.{◌≡◌, refl, ap, sym, ◌∙◌}
 use mathlib.Core.Logic.{◌≢◌, ◌⊎◌, inl, inr}
 use mathlib.Core.Bool.{Bool, true, false, not}
-use mathlib.Core.List.{List}
+use mathlib.Core.List.{List, [], ◌∷◌, ◌++◌}
 use Prim.Native.Nat.{ℕ, zero, suc, ◌+◌, ◌-◌, ◌≤◌, ◌<◌}
 use native.Mathlib.Decide.{ℕ_discrete}
 use native.Mathlib.Omega.{arith}
 use lib.Dec.{eqb, ltb}
-use lib.ListN.{length, get_or, set, replicate, length-set, length-replicate}
-use lib.Seq.{get_or-set_same, get_or-set_other}
-use borrow.Author.Tests.{ltb-true, eqb-true, eqb-false, lt-ltb, ltb-false, not-false}
+use lib.ListN.{length, get_or, set, replicate, length-set, length-replicate, length-append, get_or-append}
+use lib.Seq.{get_or-set_same, get_or-set_other, get_or-append_seam}
+use borrow.Author.Tests.{ltb-true, eqb-true, eqb-false, lt-ltb, ltb-false, not-true}
 use Rattle.words.specs.Digits.{base}
 use Rattle.words.proofs.Choice.{pick-both, both_left, both_right, both_true, true_false}
 use Rattle.settings.specs.declared.Settings.{Settings}
 use Rattle.settings.specs.Sizes.{max_nodes}
 use Rattle.areas.specs.Memory.{Memory, level_ref, node_ref, none, next_at, previous_at, entry_at, ref_taken}
 use Rattle.rules.specs.Reached.{Reached, root, by_entry, by_next, by_previous}
-use Rattle.reach.specs.Cut.{Search, thing_of, ref_of, progress_of, is_dangling, discovered, met_thing, dangles, met, met_entries, met_previous, level_expanded, expanded, goes_on, round, rounds, unsearched}
+use Rattle.reach.specs.Cut.{Search, thing_of, ref_of, ones, discovered, met_thing, dangles, met, met_entries, met_previous, level_expanded, expanded, goes_on, round, rounds, unsearched}
 use Rattle.reach.specs.Reachable.{Dangling}
 use Rattle.reach.specs.Marked.{Marked, Fits}
-use Rattle.reach.proofs.Marks.{ones, ones-le, ones_room, ones-set, ones_none}
+use Rattle.reach.proofs.Marks.{ones-le, ones-set, ones_none}
 use Rattle.reach.proofs.Things.{node_thing, node_ref_lem, level_ref_lem, met-level, thing_ref, thing_below, node_taken_lem}
 
 -- one reference leads to another in one step
@@ -32,9 +32,9 @@ pub data Leads (w : ℕ) (m : Memory) : ℕ → ℕ → Type 0 where
 -- what stays as a search goes on
 pub record Grows (x y : Search) : Type 0 where
   pub marks_stay : (t : ℕ) → get_or x.marks t 0 ≢ 0 → get_or y.marks t 0 ≢ 0
-  pub queue_stays : (j : ℕ) → j < x.progress.count → get_or y.queue j 0 ≡ get_or x.queue j 0
-  pub count_grows : x.progress.count ≤ y.progress.count
-  pub dangling_stays : is_dangling y.progress ≡ false → is_dangling x.progress ≡ false
+  pub queue_stays : (j : ℕ) → j < length x.queue → get_or y.queue j 0 ≡ get_or x.queue j 0
+  pub count_grows : length x.queue ≤ length y.queue
+  pub dangling_stays : y.dangling ≡ false → x.dangling ≡ false
 
 grows_refl : (x : Search) → Grows x x
 grows_refl x = record { marks_stay = λ t h. h; queue_stays = λ j h. refl; count_grows = omega arith; dangling_stays = λ e. e }
@@ -59,42 +59,40 @@ fine_grows {r = r} g f = record { taken = f.taken; marked = g.marks_stay (thing_
 -- what holds of a search at any time, n being the room for things
 pub record Holds (w : ℕ) (s : Settings) (m : Memory) (n : ℕ) (x : Search) : Type 0 where
   pub marks_length : length x.marks ≡ n
-  pub queue_length : length x.queue ≡ n
-  pub counted : ones x.marks ≡ x.progress.count
-  pub queued : (t : ℕ) → get_or x.marks t 0 ≢ 0 → (j : ℕ) × (j < x.progress.count) × (get_or x.queue j 0 ≡ t)
-  pub sound : (j : ℕ) → j < x.progress.count → Reached w m (ref_of (get_or x.queue j 0))
-  pub why : is_dangling x.progress ≡ true → Dangling w s m
+  pub counted : ones x.marks ≡ length x.queue
+  pub queued : (t : ℕ) → get_or x.marks t 0 ≢ 0 → (j : ℕ) × (j < length x.queue) × (get_or x.queue j 0 ≡ t)
+  pub sound : (j : ℕ) → j < length x.queue → Reached w m (ref_of (get_or x.queue j 0))
+  pub why : x.dangling ≡ true → Dangling w s m
 
 -- y comes after x, and met every reference of P unless one of them named nothing taken
 pub record Met (w : ℕ) (s : Settings) (m : Memory) (n : ℕ) (x y : Search) (P : ℕ → Type 0) : Type 0 where
   pub holds : Holds w s m n y
   pub grows : Grows x y
-  pub fine : is_dangling y.progress ≡ false → (r : ℕ) → P r → Fine s y r
+  pub fine : y.dangling ≡ false → (r : ℕ) → P r → Fine s y r
 
 module _ {w : ℕ} {s : Settings} {m : Memory} {n : ℕ} (F : Fits s n) where
   -- there are never more things discovered than there is room for
-  pub count-le : {x : Search} → Holds w s m n x → x.progress.count ≤ n
-  count-le {x} H = let o = ones-le x.marks in omega (arith, H.counted, H.marks_length)
+  pub count-le : {x : Search} → Holds w s m n x → length x.queue ≤ n
+  count-le {x} H = let o = ones-le x.marks in let e = H.counted in omega (arith, H.marks_length)
 
   -- a thing is discovered
   discovered-met : (x : Search) (r : ℕ) → Holds w s m n x → Reached w m r → ref_taken s r ≡ true → get_or x.marks (thing_of r) 0 ≡ 0 → Met w s m n x (discovered x (thing_of r)) (λ r'. r' ≡ r)
-  unfolding discovered progress_of
+  unfolding discovered
   discovered-met x r H R k z =
       record {
         holds =
             record {
               marks_length = length-set x.marks t 1 ∙ H.marks_length;
-              queue_length = length-set x.queue c t ∙ H.queue_length;
-              counted = let o = ones-set x.marks t below z in omega (arith, o, H.counted);
-              queued = λ t' h. queued' t' h (ℕ_discrete t' t);
-              sound = λ j h. sound' j h (ℕ_discrete j c);
+              counted = let o = ones-set x.marks t below z in let e = H.counted in let l = length-append x.queue (t ∷ []) in omega arith;
+              queued = λ t' h. let (j, l, q) = queued' t' h (ℕ_discrete t' t) in let a = longer in (j, omega arith, q);
+              sound = λ j h. let a = longer in sound' j (omega arith) (ℕ_discrete j c);
               why = H.why;
             };
         grows =
             record {
               marks_stay = λ t' h. stay t' h (ℕ_discrete t' t);
-              queue_stays = λ j h. get_or-set_other x.queue c j t 0 (λ e. omega arith);
-              count_grows = omega arith;
+              queue_stays = λ j h. get_or-append x.queue (t ∷ []) 0 j h;
+              count_grows = let l = length-append x.queue (t ∷ []) in omega arith;
               dangling_stays = λ e. e;
             };
         fine = λ a r' e. rw e (record { taken = k; marked = mark });
@@ -104,28 +102,28 @@ module _ {w : ℕ} {s : Settings} {m : Memory} {n : ℕ} (F : Fits s n) where
       t = thing_of r
 
       c : ℕ
-      c = x.progress.count
+      c = length x.queue
 
       below : t < length x.marks
       below = let b : t < n = thing_below F r k in omega (arith, b, H.marks_length)
 
-      room : c < length x.queue
-      room = let o = ones_room x.marks t below z in omega (arith, o, H.counted, H.marks_length, H.queue_length)
+      longer : length (x.queue ++ t ∷ []) ≡ c + 1
+      longer = length-append x.queue (t ∷ [])
 
       mark : get_or (set x.marks t 1) t 0 ≢ 0
       mark e = let o = get_or-set_same x.marks t 1 0 below in omega (arith, o, e)
 
-      queued' : (t' : ℕ) → get_or (set x.marks t 1) t' 0 ≢ 0 → Dec (t' ≡ t) → (j : ℕ) × (j < c + 1) × (get_or (set x.queue c t) j 0 ≡ t')
-      queued' t' h (yes e) = (c, omega arith, get_or-set_same x.queue c t 0 room ∙ sym e)
+      queued' : (t' : ℕ) → get_or (set x.marks t 1) t' 0 ≢ 0 → Dec (t' ≡ t) → (j : ℕ) × (j < c + 1) × (get_or (x.queue ++ t ∷ []) j 0 ≡ t')
+      queued' t' h (yes e) = (c, omega arith, get_or-append_seam x.queue t [] 0 ∙ sym e)
       queued' t' h (no d) =
           let (j, l, q) = H.queued t' (λ o. h (get_or-set_other x.marks t t' 1 0 d ∙ o)) in
-          (j, omega arith, get_or-set_other x.queue c j t 0 (λ e. omega arith) ∙ q)
+          (j, omega arith, get_or-append x.queue (t ∷ []) 0 j l ∙ q)
 
-      sound' : (j : ℕ) → j < c + 1 → Dec (j ≡ c) → Reached w m (ref_of (get_or (set x.queue c t) j 0))
+      sound' : (j : ℕ) → j < c + 1 → Dec (j ≡ c) → Reached w m (ref_of (get_or (x.queue ++ t ∷ []) j 0))
       sound' j h (yes e) =
-          let q : get_or (set x.queue c t) j 0 ≡ t = ap (λ (i : ℕ). get_or (set x.queue c t) i 0) e ∙ get_or-set_same x.queue c t 0 room in
+          let q : get_or (x.queue ++ t ∷ []) j 0 ≡ t = ap (λ (i : ℕ). get_or (x.queue ++ t ∷ []) i 0) e ∙ get_or-append_seam x.queue t [] 0 in
           rw (q, thing_ref F r k) R
-      sound' j h (no d) = rw (get_or-set_other x.queue c j t 0 d) (H.sound j (omega arith))
+      sound' j h (no d) = let l : j < c = omega arith in rw (get_or-append x.queue (t ∷ []) 0 j l) (H.sound j l)
 
       stay : (t' : ℕ) → get_or x.marks t' 0 ≢ 0 → Dec (t' ≡ t) → get_or (set x.marks t 1) t' 0 ≢ 0
       stay t' h (yes e) o = h (ap (λ (i : ℕ). get_or x.marks i 0) e ∙ z)
@@ -133,13 +131,12 @@ module _ {w : ℕ} {s : Settings} {m : Memory} {n : ℕ} (F : Fits s n) where
 
   -- a reference that names nothing taken
   dangles-met : (x : Search) (r : ℕ) → Holds w s m n x → Reached w m r → ref_taken s r ≡ false → Met w s m n x (dangles x) (λ r'. r' ≡ r)
-  unfolding dangles progress_of
+  unfolding dangles
   dangles-met x r H R k =
       record {
         holds =
             record {
               marks_length = H.marks_length;
-              queue_length = H.queue_length;
               counted = H.counted;
               queued = H.queued;
               sound = H.sound;
@@ -159,18 +156,20 @@ module _ {w : ℕ} {s : Settings} {m : Memory} {n : ℕ} (F : Fits s n) where
   met-met : (x : Search) (r : ℕ) → Holds w s m n x → Reached w m r → Met w s m n x (met s x r) (λ r'. r' ≡ r)
   unfolding met met_thing
   met-met x r H R =
+      pick-both (λ y. Met w s m n x y (λ r'. r' ≡ r)) x.dangling (λ d. record { holds = H; grows = grows_refl x; fine = λ a. absurd (true_false (sym d ∙ a)) })
+      (λ _.
       pick-both (λ y. Met w s m n x y (λ r'. r' ≡ r)) (ref_taken s r)
       (λ k.
       pick-both (λ y. Met w s m n x y (λ r'. r' ≡ r)) (eqb (get_or x.marks (thing_of r) 0) 0) (λ e. discovered-met x r H R k (eqb-true _ _ e))
       (λ e. record { holds = H; grows = grows_refl x; fine = λ a r' q. rw q (record { taken = k; marked = eqb-false _ _ e }) }))
-      (λ k. dangles-met x r H R k)
+      (λ k. dangles-met x r H R k))
 
   -- one after the other
   then : {x y z : Search} {P Q : ℕ → Type 0} → Met w s m n x y P → Met w s m n y z Q → Met w s m n x z (λ r. P r ⊎ Q r)
   then {x} {y} {z} {P} {Q} p q =
       record { holds = q.holds; grows = grows_trans p.grows q.grows; fine = fine' }
     where
-      fine' : is_dangling z.progress ≡ false → (r : ℕ) → P r ⊎ Q r → Fine s z r
+      fine' : z.dangling ≡ false → (r : ℕ) → P r ⊎ Q r → Fine s z r
       fine' a r (inl h) = fine_grows q.grows (p.fine (q.grows.dangling_stays a) r h)
       fine' a r (inr h) = q.fine a r h
 
@@ -240,24 +239,23 @@ module _ {w : ℕ} {s : Settings} {m : Memory} {n : ℕ} (F : Fits s n) where
 -- a search after k rounds: the root was met, and what the first k things of the queue refer to
 pub record Done (w : ℕ) (s : Settings) (m : Memory) (n : ℕ) (x : Search) (k : ℕ) : Type 0 where
   pub holds : Holds w s m n x
-  pub root_fine : is_dangling x.progress ≡ false → Fine s x (level_ref 0)
-  pub closed : is_dangling x.progress ≡ false → (j : ℕ) → j < k → j < x.progress.count → (r : ℕ) → Leads w m (ref_of (get_or x.queue j 0)) r → Fine s x r
+  pub root_fine : x.dangling ≡ false → Fine s x (level_ref 0)
+  pub closed : x.dangling ≡ false → (j : ℕ) → j < k → j < length x.queue → (r : ℕ) → Leads w m (ref_of (get_or x.queue j 0)) r → Fine s x r
 
-goes_below : (x : Search) (k : ℕ) → goes_on x.progress k ≡ true → (k < x.progress.count) × (is_dangling x.progress ≡ false)
+goes_below : (x : Search) (k : ℕ) → goes_on x k ≡ true → (k < length x.queue) × (x.dangling ≡ false)
 unfolding goes_on
-goes_below x k e = (ltb-true _ _ (both_left _ _ e), ap not (both_right (ltb k x.progress.count) _ e))
+goes_below x k e = (ltb-true _ _ (both_left _ _ e), not-true _ (both_right (ltb k (length x.queue)) _ e))
 
-goes_all : (x : Search) (k : ℕ) → k < x.progress.count → is_dangling x.progress ≡ false → goes_on x.progress k ≡ true
+goes_all : (x : Search) (k : ℕ) → k < length x.queue → x.dangling ≡ false → goes_on x k ≡ true
 unfolding goes_on
-goes_all x k l a = both_true (lt-ltb _ _ l) (not-false _ a)
+goes_all x k l a = both_true (lt-ltb _ _ l) (ap not a)
 
 module _ {w : ℕ} {s : Settings} {m : Memory} {n : ℕ} (F : Fits s n) where
   nothing_holds : Holds w s m n (unsearched n)
-  unfolding unsearched progress_of
+  unfolding unsearched
   nothing_holds =
       record {
         marks_length = length-replicate n 0;
-        queue_length = length-replicate n 0;
         counted = ones_none n;
         queued = λ t h. absurd (h (get_d_none n t));
         sound = λ j h. absurd (omega arith);
@@ -272,7 +270,7 @@ module _ {w : ℕ} {s : Settings} {m : Memory} {n : ℕ} (F : Fits s n) where
   round_done : (x : Search) (k : ℕ) → Done w s m n x k → Done w s m n (round w s m x k) (suc k)
   unfolding round
   round_done x k D =
-      pick-both (λ y. Done w s m n y (suc k)) (goes_on x.progress k) (λ e. on e) (λ e. off e)
+      pick-both (λ y. Done w s m n y (suc k)) (goes_on x k) (λ e. on e) (λ e. off e)
     where
       t : ℕ
       t = get_or x.queue k 0
@@ -280,7 +278,7 @@ module _ {w : ℕ} {s : Settings} {m : Memory} {n : ℕ} (F : Fits s n) where
       y : Search
       y = expanded w s m x t
 
-      on : goes_on x.progress k ≡ true → Done w s m n y (suc k)
+      on : goes_on x k ≡ true → Done w s m n y (suc k)
       on e =
           record {
             holds = M.holds;
@@ -288,25 +286,25 @@ module _ {w : ℕ} {s : Settings} {m : Memory} {n : ℕ} (F : Fits s n) where
             closed = λ a j h l r q. by a j h r q (ℕ_discrete j k);
           }
         where
-          b : k < x.progress.count
+          b : k < length x.queue
           b = (goes_below x k e).0
 
           M : Met w s m n x y (Leads w m (ref_of t))
           M = expanded-met F x t D.holds (D.holds.sound k b)
 
-          by : is_dangling y.progress ≡ false → (j : ℕ) → j < suc k → (r : ℕ) → Leads w m (ref_of (get_or y.queue j 0)) r → Dec (j ≡ k) → Fine s y r
+          by : y.dangling ≡ false → (j : ℕ) → j < suc k → (r : ℕ) → Leads w m (ref_of (get_or y.queue j 0)) r → Dec (j ≡ k) → Fine s y r
           by a j h r q (yes z) =
               let p : get_or y.queue j 0 ≡ t = ap (λ (i : ℕ). get_or y.queue i 0) z ∙ M.grows.queue_stays k b in
               M.fine a r (rw p at q)
           by a j h r q (no d) =
-              let l : j < x.progress.count = omega (arith, b) in
+              let l : j < length x.queue = omega (arith, b) in
               let p : get_or y.queue j 0 ≡ get_or x.queue j 0 = M.grows.queue_stays j l in
               fine_grows M.grows (D.closed (M.grows.dangling_stays a) j (omega arith) l r (rw p at q))
 
-      off : goes_on x.progress k ≡ false → Done w s m n x (suc k)
+      off : goes_on x k ≡ false → Done w s m n x (suc k)
       off e = record { holds = D.holds; root_fine = D.root_fine; closed = λ a j h l r q. by a j h l r q (ℕ_discrete j k) }
         where
-          by : is_dangling x.progress ≡ false → (j : ℕ) → j < suc k → j < x.progress.count → (r : ℕ) → Leads w m (ref_of (get_or x.queue j 0)) r → Dec (j ≡ k) → Fine s x r
+          by : x.dangling ≡ false → (j : ℕ) → j < suc k → j < length x.queue → (r : ℕ) → Leads w m (ref_of (get_or x.queue j 0)) r → Dec (j ≡ k) → Fine s x r
           by a j h l r q (yes z) = absurd (true_false (sym (goes_all x k (rw z at l) a) ∙ e))
           by a j h l r q (no d) = D.closed a j (omega arith) l r q
 
@@ -319,7 +317,7 @@ module _ {w : ℕ} {s : Settings} {m : Memory} {n : ℕ} (F : Fits s n) where
   rounds_done (suc k) = round_done (rounds w s m n k) k (rounds_done k)
 
   -- a search that does not go on has discovered everything that is reached
-  reached_fine : (x : Search) (k : ℕ) → Done w s m n x k → x.progress.count ≤ k → is_dangling x.progress ≡ false → {r : ℕ} → Reached w m r → Fine s x r
+  reached_fine : (x : Search) (k : ℕ) → Done w s m n x k → length x.queue ≤ k → x.dangling ≡ false → {r : ℕ} → Reached w m r → Fine s x r
   reached_fine x k D c a R = go R
     where
       from : {r r' : ℕ} → Fine s x r → Leads w m r r' → Fine s x r'
@@ -335,7 +333,7 @@ module _ {w : ℕ} {s : Settings} {m : Memory} {n : ℕ} (F : Fits s n) where
       go (by_previous g d q k') = from (go k') (to_previous g refl d q)
 
   -- the answer of a search that does not go on
-  pub tells_reached : (x : Search) (k : ℕ) → Done w s m n x k → goes_on x.progress k ≡ false → Marked w s m (is_dangling x.progress) x.marks
+  pub tells_reached : (x : Search) (k : ℕ) → Done w s m n x k → goes_on x k ≡ false → Marked w s m (x.dangling) x.marks
   tells_reached x k D e =
       record {
         only_then = D.holds.why;
@@ -348,10 +346,10 @@ module _ {w : ℕ} {s : Settings} {m : Memory} {n : ℕ} (F : Fits s n) where
         reached_marked = λ a i R. rw (node_thing i) at (reached_fine x k D (over a) a R).marked;
       }
     where
-      over : is_dangling x.progress ≡ false → x.progress.count ≤ k
-      over a = by (ltb k x.progress.count) refl
+      over : x.dangling ≡ false → length x.queue ≤ k
+      over a = by (ltb k (length x.queue)) refl
         where
-          by : (b : Bool) → ltb k x.progress.count ≡ b → x.progress.count ≤ k
+          by : (b : Bool) → ltb k (length x.queue) ≡ b → length x.queue ≤ k
           by true z = absurd (true_false (sym (goes_all x k (ltb-true _ _ z) a) ∙ e))
           by false z = ltb-false _ _ z
 

@@ -1,16 +1,22 @@
 -- Questions 1 to 3 of the operations that read nodes and levels alone: how they are asked, and what a yes says.
 -- Relies on settings for the questions, on rules for their order.
-use mathlib.Core.Path.{◌≡◌, refl, sym, ◌∙◌}
+use mathlib.Core.Path.{◌≡◌, refl, sym, ap, ◌∙◌}
 use mathlib.Core.Logic.{◌≢◌}
 use mathlib.Core.Bool.{Bool, true, false}
+use mathlib.Core.List.{List, [], ◌∷◌}
 use Prim.Native.Nat.{ℕ, ◌*◌}
+use lib.ListN.{get_or}
 use native.Mathlib.Nat.{le_refl}
 use native.Mathlib.Omega.{arith}
 use lib.Dec.{leb}
 use borrow.Author.Tests.{le-leb}
 use Rattle.words.specs.Choice.{both, every, first_no}
+use Rattle.words.proofs.Choice.{pick-both}
 use Rattle.words.specs.Digits.{DigitWidth}
 use Rattle.settings.specs.declared.Settings.{Settings}
+use Rattle.settings.specs.declared.Refusal.{Refusal}
+use Rattle.settings.specs.declared.Refusal.TheVariants.{Settings as Ranges, Area, Counts}
+use Rattle.settings.specs.Refusals.{refusal_no}
 use Rattle.settings.specs.Sizes.{node_words, level_words, worker_words, level_count, question2}
 use Rattle.settings.specs.Cut.{first_three}
 use Rattle.settings.proofs.Laws.{sized}
@@ -36,9 +42,9 @@ same_three w s n g =
 pub reading_steps : (w : ℕ) (s : Settings) (n g : ℕ) {q : ℕ} → q ≡ first_three w s n g (worker_words * s.workers) → q ≡ first_no (reading_questions w s n g)
 reading_steps w s n g a = a ∙ same_three w s n g
 
-module _ (s : Settings) (n g : ℕ) {q : ℕ} (a : q ≡ first_no (reading_questions s.width s n g)) (z : q ≡ 0) where
+module _ (s : Settings) (n g : ℕ) (z : 0 ≡ first_no (reading_questions s.width s n g)) where
   yes : first_three s.width s n g (worker_words * s.workers) ≡ 0
-  yes = same_three s.width s n g ∙ (sym a ∙ z)
+  yes = same_three s.width s n g ∙ sym z
 
   -- a yes says that the width is one of the four
   pub reading_wide : DigitWidth s.width
@@ -63,3 +69,14 @@ module _ (w : ℕ) (s : Settings) (m : Memory) where
   pub not-six : ¬ (FirstNo 6 (questions_of w s m))
   unfolding reading_questions every both
   not-six f = never_first refl f
+
+-- a no to questions 1 to 3 is a refusal's number
+pub asked_refusal : (w : ℕ) (s : Settings) (n g : ℕ) → first_no (reading_questions w s n g) ≢ 0 → (r : Refusal) × (first_no (reading_questions w s n g) ≡ refusal_no r)
+unfolding reading_questions first_no
+asked_refusal w s n g =
+    pick-both Named _
+    (λ _. pick-both Named _ (λ _. pick-both Named _ (λ _ h. absurd (h refl)) (λ _ h. (Counts, refl))) (λ _ h. (Area, refl)))
+    (λ _ h. (Ranges, refl))
+  where
+    Named : ℕ → Type 0
+    Named k = k ≢ 0 → (r : Refusal) × (k ≡ refusal_no r)

@@ -1,173 +1,107 @@
 -- The ways through the functions of the search, one law for each: from what the calls give to what the function ensures.
 -- Relies on Things for references, on Exact for what holds of a search.
-use mathlib.Core.Path.{◌≡◌, refl, sym, ◌∙◌}
-use mathlib.Core.Bool.{true, false, not}
-use mathlib.Core.List.{List}
-use Prim.Native.Nat.{ℕ, ◌+◌, ◌*◌, ◌-◌, ◌≤◌, ◌<◌}
+use mathlib.Core.Path.{◌≡◌, refl, ap, ◌∙◌}
+use mathlib.Core.Bool.{Bool, true, false}
+use mathlib.Core.List.{List, []}
+use Prim.Native.Nat.{ℕ, zero, suc, ◌+◌, ◌*◌, ◌-◌, ◌≤◌, ◌<◌}
 use native.Mathlib.Omega.{arith}
 use native.Mathlib.Numerals.{add-one}
+use native.Mathlib.Nat.{zero-add, suc-add}
 use mir.Syntax.{w32}
 use mir.Val as val
-use lib.Dec.{eqb, ltb}
-use lib.ListN.{get_or, set, replicate}
-use borrow.Author.Tests.{ltb-true}
-use Rattle.words.proofs.Choice.{both_left}
+use lib.Dec.{eqb}
+use lib.ListN.{length, get_or, replicate}
+use borrow.Author.Tests.{ltb-true, le-ltb, lt-ltb}
+use Rattle.words.proofs.Choice.{pick-both, pick_true, both_false_left}
 use Rattle.words.specs.Choice.{pick, both}
 use Rattle.words.specs.Digits.{base}
 use Rattle.settings.specs.declared.Settings.{Settings}
 use Rattle.settings.specs.Sizes.{max_nodes, level_words}
-use Rattle.areas.specs.Memory.{memory, is_node, named, none, next_at, previous_at, entry_at, level_taken, ref_taken}
-use Rattle.reach.specs.declared.Progress.{Progress}
-use Rattle.reach.specs.Cut.{Search, searched, thing_of, progress_of, discovered, met_thing, dangles, met, met_entries, met_level, met_previous, level_expanded, expanded, goes_on, round, rounds, unsearched}
+use Rattle.areas.specs.Memory.{memory, none, entry_at, level_taken, ref_taken}
+use Rattle.reach.specs.Cut.{Search, Room, searched, thing_of, met, met_entries, met_level, met_previous, expanded, goes_on, round, rounds, unsearched}
 use Rattle.reach.specs.Marked.{Marked, Fits, things}
+use Rattle.reach.proofs.Marks.{ones-le, ones_room}
 use Rattle.reach.proofs.Things.{thing_below}
-use Rattle.reach.proofs.Exact.{rounds_done, tells_reached, count-le}
+use Rattle.reach.proofs.Exact.{rounds_done, tells_reached}
 
-module _ (r : ℕ) where
-  pub thing_node : {t : ℕ} → t ≡ named r → is_node r ≡ true → t ≡ thing_of r
-  unfolding thing_of pick
-  thing_node a e = simp (e, a)
-
-  pub thing_level : {k : ℕ} → k ≡ named r → is_node r ≡ false → max_nodes + k ≡ thing_of r
-  unfolding thing_of pick
-  thing_level a e = simp (e, a)
-
--- the thing of a taken reference is one of n
-pub thing_fits : {s : Settings} {n : ℕ} (r : ℕ) {t : ℕ} → t ≡ thing_of r → ref_taken s r ≡ true → Fits s n → t < n
-thing_fits r a e F = rw a (thing_below F r e)
+-- the thing of a taken reference has a mark
+pub thing_fits : {s : Settings} (r : ℕ) → ref_taken s r ≡ true → Fits s things → thing_of r < things
+thing_fits r e F = thing_below F r e
 
 -- and so is that of a taken level, and a word holds it
 module _ {s : Settings} (g : ℕ) (e : level_taken s g ≡ true) (F : Fits s things) where
-  pub level-fits : max_nodes + g < things
+  pub level_fits : max_nodes + g < things
   unfolding level_taken
-  level-fits = let l : g < s.levels_taken = ltb-true _ _ e in omega (arith, F.levels)
+  level_fits = let l : g < s.levels_taken = ltb-true _ _ e in omega (arith, F.levels)
 
-  pub level-word : val.Fits w32 (max_nodes + g)
-  level-word = let l = level-fits in record { fits = omega arith }
+  pub level_word : val.Fits w32 (max_nodes + g)
+  level_word = let l = level_fits in record { fits = omega arith }
 
-pub dangle_bound : (f : Progress) {f' : Progress} → f' ≡ progress_of f.count 1 → f'.count ≤ f.count + 1
-unfolding progress_of
-dangle_bound f a = rw a (omega arith)
+-- a thing that is not marked finds room in the queue
+pub room_left : (marks queue : List ℕ) (t : ℕ) → Room marks queue → t < things → get_or marks t 0 ≡ 0 → length queue < things
+room_left marks queue t R h z =
+    let l : t < length marks = let e = R.all in omega arith in
+    let a = ones_room marks t l z in
+    let b = R.all in
+    let c = R.counted in
+    omega arith
 
-module _ (m q : List ℕ) (f : Progress) where
-  pub discover_steps :
-      (t : ℕ) {m' q' : List ℕ} → q' ≡ set q f.count t → m' ≡ set m t 1
-      → searched m' q' (record { count = f.count + 1; dangling = f.dangling }) ≡ discovered (searched m q f) t
-  unfolding discovered progress_of
-  discover_steps t a b = simp (a, b)
+-- the queue holds no more than all things
+pub within_things : (marks queue : List ℕ) {k : ℕ} → Room marks queue → k < length queue → k + 1 ≤ things
+within_things marks queue R h = let a = ones-le marks in let b = R.all in let c = R.counted in omega arith
 
-  pub thing_new : (t : ℕ) {y : Search} {e : ℕ} → y ≡ discovered (searched m q f) t → e ≡ get_or m t 0 → eqb e 0 ≡ true → y ≡ met_thing (searched m q f) t
-  unfolding met_thing pick
-  thing_new t a b c = simp (← b, c, a)
+-- once a reference named nothing taken, the search stays as it is
+module _ (s : Settings) (x : Search) (d : x.dangling ≡ true) where
+  met_stays : (r : ℕ) → met s x r ≡ x
+  unfolding met
+  met_stays r = pick_true _ _ _ d
 
-  pub thing_known : (t : ℕ) {e : ℕ} → e ≡ get_or m t 0 → eqb e 0 ≡ false → searched m q f ≡ met_thing (searched m q f) t
-  unfolding met_thing pick
-  thing_known t b c = simp (← b, c)
+  pub previous_stays : (p : ℕ) → met_previous s x p ≡ x
+  unfolding met_previous met_level
+  previous_stays p = pick-both (λ y. y ≡ x) (eqb p none) (λ _. refl) (λ _. pick_true _ _ _ d)
 
-  module _ (s : Settings) where
-    pub met-taken : (r : ℕ) {y : Search} {t : ℕ} → y ≡ met_thing (searched m q f) t → t ≡ thing_of r → ref_taken s r ≡ true → y ≡ met s (searched m q f) r
-    unfolding met pick
-    met-taken r a b e = simp (e, a, b)
+-- the entries of a level are met
+module _ (w : ℕ) (s : Settings) (levels : List ℕ) (g : ℕ) (x : Search) where
+  entries_stay : (n k : ℕ) → (met_entries w s levels g x n).dangling ≡ true → met_entries w s levels g x (k + n) ≡ met_entries w s levels g x n
+  unfolding met_entries
+  entries_stay n zero d = rw zero-add refl
+  entries_stay n (suc k) d =
+      let i = entries_stay n k d in
+      rw suc-add (met_stays s (met_entries w s levels g x (k + n)) (ap (λ (y : Search). y.dangling) i ∙ d) (entry_at w levels g (k + n)) ∙ i)
 
-    pub met-dangles : (r : ℕ) {f' : Progress} → f' ≡ progress_of f.count 1 → ref_taken s r ≡ false → searched m q f' ≡ met s (searched m q f) r
-    unfolding met dangles pick
-    met-dangles r a e = simp (e, a)
+  -- one entry more: the word at its place
+  module _ (e : ℕ) {marks queue : List ℕ} {r first : ℕ} (a : r ≡ get_or levels (first + e) 0) (b : first ≡ level_words w * g + 2) (c : met_entries w s levels g x e ≡ searched marks queue false) where
+    pub entries_more : {y : Search} → met s (searched marks queue false) r ≡ y → met_entries w s levels g x (e + 1) ≡ y
+    unfolding met_entries entry_at
+    entries_more h = rw (add-one, c, ← b, ← a) h
 
-    pub level-taken : (g : ℕ) {y : Search} → y ≡ met_thing (searched m q f) (max_nodes + g) → level_taken s g ≡ true → y ≡ met_level s (searched m q f) g
-    unfolding met_level pick
-    level-taken g a e = simp (e, a)
+    pub entries_dangle : {m q : List ℕ} → e < base w → met s (searched marks queue false) r ≡ searched m q true → met_entries w s levels g x (base w) ≡ searched m q true
+    entries_dangle l h =
+        let i = entries_more h in
+        let k : base w - (e + 1) + (e + 1) ≡ base w = omega arith in
+        rw (← k) (entries_stay (e + 1) (base w - (e + 1)) (ap (λ (y : Search). y.dangling) i) ∙ i)
 
-    pub level-dangles : (g : ℕ) {f' : Progress} → f' ≡ progress_of f.count 1 → level_taken s g ≡ false → searched m q f' ≡ met_level s (searched m q f) g
-    unfolding met_level dangles pick
-    level-dangles g a e = simp (e, a)
+both_false_right : (a : Bool) → both a false ≡ false
+unfolding both
+both_false_right true = refl
+both_false_right false = refl
 
-    pub previous_none : (p : ℕ) → eqb p none ≡ true → searched m q f ≡ met_previous s (searched m q f) p
-    unfolding met_previous pick
-    previous_none p e = simp e
+-- the root is met, and what the things of the queue refer to, one after the other
+module _ (w : ℕ) (s : Settings) (nodes levels : List ℕ) (n : ℕ) where
+  pub rounds_none : {m q : List ℕ} {y : Search} → met s (searched m q false) 0 ≡ y → m ≡ replicate n 0 → q ≡ [] → rounds w s (memory nodes levels) n 0 ≡ y
+  unfolding rounds unsearched
+  rounds_none a b c = rw (← b, ← c) a
 
-    pub previous_some : (p : ℕ) {y : Search} → y ≡ met_level s (searched m q f) p → eqb p none ≡ false → y ≡ met_previous s (searched m q f) p
-    unfolding met_previous pick
-    previous_some p a e = simp (e, a)
+  module _ (k : ℕ) {m q : List ℕ} where
+    pub rounds_more : {t : ℕ} {y : Search} → rounds w s (memory nodes levels) n k ≡ searched m q false → expanded w s (memory nodes levels) (searched m q false) t ≡ y → t ≡ get_or q k 0 → k < length q → rounds w s (memory nodes levels) n (k + 1) ≡ y
+    unfolding rounds round goes_on both pick
+    rounds_more c a b l = rw (add-one, c) (simp (lt-ltb _ _ l, ← b) a)
 
-    module _ (w : ℕ) (levels : List ℕ) (g : ℕ) where
-      -- one entry more: the word at its place
-      pub entries-more :
-          (e : ℕ) (m₀ q₀ : List ℕ) (f₀ : Progress) {y : Search} {r first : ℕ}
-          → y ≡ met s (searched m q f) r → r ≡ get_or levels (first + e) 0 → first ≡ level_words w * g + 2
-          → searched m q f ≡ met_entries w s levels g (searched m₀ q₀ f₀) e → y ≡ met_entries w s levels g (searched m₀ q₀ f₀) (e + 1)
-      unfolding met_entries entry_at
-      entries-more e m₀ q₀ f₀ a b d c = rw (add-one, ← c, ← d, ← b) a
+    -- the search ends
+    pub rounds_dangle : Fits s n → rounds w s (memory nodes levels) n k ≡ searched m q true → Marked w s (memory nodes levels) true m
+    unfolding goes_on both
+    rounds_dangle F c = tells_reached F (searched m q true) k (rw c at (rounds_done {w = w} {m = memory nodes levels} F k)) (both_false_right _)
 
-      pub entries_none : searched m q f ≡ met_entries w s levels g (searched m q f) 0
-      unfolding met_entries
-      entries_none = refl
-
-      pub entries-all :
-          (e : ℕ) {y : Search} {n : ℕ} → y ≡ met_entries w s levels g (searched m q f) e → n ≤ e → e ≤ n → n ≡ base w → y ≡ met_entries w s levels g (searched m q f) (base w)
-      entries-all e {n = n} a h h' d = let k : e ≡ n = omega arith in rw (← d, ← k) a
-
-      pub level-expanded :
-          (m₁ q₁ : List ℕ) (f₁ : Progress) {y : Search} {p : ℕ}
-          → y ≡ met_previous s (searched m₁ q₁ f₁) p → p ≡ previous_at w levels g → searched m₁ q₁ f₁ ≡ met_entries w s levels g (searched m q f) (base w)
-          → y ≡ level_expanded w s levels (searched m q f) g
-      unfolding level_expanded
-      level-expanded m₁ q₁ f₁ a b c = rw (← c, ← b) a
-
-    module _ (w : ℕ) (nodes levels : List ℕ) (t : ℕ) where
-      pub node_expanded : {y : Search} {r : ℕ} → y ≡ met s (searched m q f) r → r ≡ next_at nodes t → ltb t max_nodes ≡ true → y ≡ expanded w s (memory nodes levels) (searched m q f) t
-      unfolding expanded pick
-      node_expanded a b e = simp (e, a, b)
-
-      pub level_thing_expanded : {y : Search} → y ≡ level_expanded w s levels (searched m q f) (t - max_nodes) → ltb t max_nodes ≡ false → y ≡ expanded w s (memory nodes levels) (searched m q f) t
-      unfolding expanded pick
-      level_thing_expanded a e = simp (e, a)
-
-goes_count : (f : Progress) (k : ℕ) → goes_on f k ≡ true → k < f.count
-unfolding goes_on
-goes_count f k e = ltb-true _ _ (both_left _ _ e)
-
--- what the loop needs of a search after k rounds
-module _ (w : ℕ) (s : Settings) (nodes levels : List ℕ) (n k : ℕ) (m q : List ℕ) (f : Progress) (c : searched m q f ≡ rounds w s (memory nodes levels) n k) (F : Fits s n) where
-  count_below : f.count ≤ n
-  count_below = let l = count-le F (rounds_done {w = w} {m = memory nodes levels} F k).holds in rw (sym c) at l
-
-  pub count_small : n ≤ 900000 → f.count ≤ 900000
-  count_small h = let l = count_below in omega arith
-
-  pub round-left : goes_on f k ≡ true → k + 1 ≤ n
-  round-left e = let l = goes_count f k e in let b = count_below in omega arith
-
-  pub round_less : goes_on f k ≡ true → n - (k + 1) < n - k
-  round_less e = let l = goes_count f k e in let b = count_below in omega arith
-
--- the root is met
-pub rounds-none :
-    (w : ℕ) (s : Settings) (nodes levels : List ℕ) (n : ℕ) {m q : List ℕ} {y : Search}
-    → y ≡ met s (searched m q (record { count = 0; dangling = 0 })) 0 → m ≡ replicate n 0 → q ≡ replicate n 0 → y ≡ rounds w s (memory nodes levels) n 0
-unfolding rounds unsearched progress_of
-rounds-none w s nodes levels n a b c = a ∙ (rw (b, c) refl)
-
--- one round more
-pub rounds-more :
-    (w : ℕ) (s : Settings) (nodes levels : List ℕ) (n k : ℕ) (m q : List ℕ) (f : Progress) {t : ℕ} {y : Search}
-    → y ≡ expanded w s (memory nodes levels) (searched m q f) t → t ≡ get_or q k 0 → goes_on f k ≡ true
-    → searched m q f ≡ rounds w s (memory nodes levels) n k → y ≡ rounds w s (memory nodes levels) n (k + 1)
-unfolding rounds round pick
-rounds-more w s nodes levels n k m q f a b e c = rw (add-one, ← c) (simp (e, a, b))
-
--- the search ends
-pub rounds-end :
-    (w : ℕ) {s : Settings} {n : ℕ} (nodes levels : List ℕ) (k : ℕ) (m q : List ℕ) (f : Progress)
-    → searched m q f ≡ rounds w s (memory nodes levels) n k → goes_on f k ≡ false → Fits s n → Marked w s (memory nodes levels) (not (eqb f.dangling 0)) m
-rounds-end w nodes levels k m q f c e F =
-    let d = rounds_done {w = w} {m = memory nodes levels} F k in
-    tells_reached F (searched m q f) k (rw (sym c) at d) e
-
-module _ (f : Progress) (k : ℕ) where
-  pub goes_left : ltb k f.count ≡ true → eqb f.dangling 0 ≡ goes_on f k
-  unfolding goes_on both
-  goes_left e = simp e
-
-  pub goes_over : ltb k f.count ≡ false → false ≡ goes_on f k
-  unfolding goes_on both
-  goes_over e = simp e
+    pub rounds_over : Fits s n → rounds w s (memory nodes levels) n k ≡ searched m q false → length q ≤ k → Marked w s (memory nodes levels) false m
+    unfolding goes_on both
+    rounds_over F c l = tells_reached F (searched m q false) k (rw c at (rounds_done {w = w} {m = memory nodes levels} F k)) (both_false_left _ (le-ltb _ _ l))

@@ -1,6 +1,6 @@
 -- The search of a memory of any content that passes questions 1 to 3, carried on to its end: there is an answer with its marks, whatever the code does.
 -- Relies on Exact for what a search tells that does not go on, on Reading for its room.
-use mathlib.Core.Path.{◌≡◌, refl}
+use mathlib.Core.Path.{◌≡◌, sym}
 use mathlib.Core.Bool.{Bool, false}
 use mathlib.Core.List.{List}
 use Prim.Native.Nat.{ℕ}
@@ -9,7 +9,7 @@ use borrow.Author.Tests.{le-ltb}
 use Rattle.words.specs.Choice.{both, first_no}
 use Rattle.settings.specs.declared.Settings.{Settings}
 use Rattle.areas.specs.Memory.{Memory}
-use Rattle.reach.specs.Cut.{Search, is_dangling, goes_on, rounds}
+use Rattle.reach.specs.Cut.{Search, goes_on, rounds}
 use Rattle.reach.specs.Marked.{Marked, Fits, things}
 use Rattle.reach.specs.Reading.{questions_of}
 use Rattle.reach.proofs.Exact.{count-le, rounds_done, tells_reached}
@@ -25,13 +25,13 @@ pub record Whole (s : Settings) (m : Memory) : Type 0 where
 -- after as many rounds as there can be things
 pub whole : (s : Settings) (m : Memory) → first_no (questions_of s.width s m) ≡ 0 → Whole s m
 unfolding goes_on both
-whole s m z = record { dangling = is_dangling end.progress; marks = end.marks; room = room; tells = tells_reached room end things (rounds_done room things) over }
+whole s m z = record { dangling = end.dangling; marks = end.marks; room = room; tells = tells_reached room end things (rounds_done room things) over }
   where
     room : Fits s things
-    room = reading_fits s (length m.nodes) (length m.levels) refl z
+    room = reading_fits s (length m.nodes) (length m.levels) (sym z)
 
     end : Search
     end = rounds s.width s m things things
 
-    over : goes_on end.progress things ≡ false
-    over = simp (le-ltb things end.progress.count (count-le room (rounds_done {w = s.width} {m = m} room things).holds))
+    over : goes_on end things ≡ false
+    over = simp (le-ltb things (length end.queue) (count-le room (rounds_done {w = s.width} {m = m} room things).holds))

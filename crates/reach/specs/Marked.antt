@@ -1,7 +1,9 @@
 -- What the search finds out: that a reached reference names nothing taken, or else which nodes are reached.
 -- Relies on Reachable and on rules for what is reached.
-use Rattle.std.specs.Prelude.{ℕ, ◌+◌, ◌≤◌, ◌<◌, ◌≡◌, ◌≢◌, Bool, true, false, List, get_or}
+use Rattle.std.specs.Prelude.{ℕ, ◌+◌, ◌≤◌, ◌<◌, ◌≡◌, ◌≢◌, ⊤, Bool, true, false, Result, Ok, Err, List, get_or}
 use Rattle.settings.specs.declared.Settings.{Settings}
+use Rattle.settings.specs.declared.Refusal.{Refusal}
+use Rattle.settings.specs.declared.Refusal.TheVariants.{Memory as MemoryRefused}
 use Rattle.settings.specs.Sizes.{max_nodes, most_levels}
 use Rattle.areas.specs.Memory.{Memory, node_ref, ref_taken}
 use Rattle.rules.specs.Reached.{Reached}
@@ -26,3 +28,8 @@ pub record Marked (w : ℕ) (s : Settings) (m : Memory) (dangling : Bool) (marks
   pub marked_reached : (i : ℕ) → i < max_nodes → get_or marks i 0 ≢ 0 → Reached w m (node_ref i)
   -- excludes: a walk by entries alone, which misses a node that hangs by a previous word; one that follows no next word
   pub reached_marked : dangling ≡ false → (i : ℕ) → Reached w m (node_ref i) → get_or marks i 0 ≢ 0
+
+-- the same of a search that refuses where a reference names nothing taken, by 6 and by no other number
+abbrev pub Found : ℕ → Settings → Memory → Result ⊤ Refusal → List ℕ → Type 0
+Found w s m (Ok x) marks = Marked w s m false marks
+Found w s m (Err r) marks = (r ≡ MemoryRefused) × Marked w s m true marks

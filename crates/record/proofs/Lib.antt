@@ -4,5 +4,4 @@ pub mod Numbers
 pub mod Apart
 pub mod Pieces
 pub mod Records
-pub mod Places
 pub mod Tests

@@ -1,115 +1,65 @@
 -- The ways through the functions that ask whether a record fits its layout, each from what the called functions give.
 -- Relies on Pieces for the number of Moves.
 use mathlib.Core.Path.{◌≡◌, refl, sym, ◌∙◌}
-use mathlib.Core.Logic.{◌≢◌}
 use mathlib.Core.Bool.{Bool, true, false}
 use mathlib.Core.List.{List}
 use Prim.Native.Nat.{ℕ, zero, suc, ◌+◌, ◌-◌, ◌≤◌, ◌<◌}
 use native.Mathlib.Omega.{arith}
-use native.Mathlib.Numerals.{add-one}
+use native.Mathlib.Nat.{add-zero, zero-add}
 use lib.Dec.{leb, eqb}
-use borrow.Author.Tests.{ne_eqb, le-leb, lt-leb}
+use Rattle.std.specs.Prelude.{◌&&◌}
+use Rattle.std.specs.List.{list_all, range_with_len}
+use borrow.Author.Tests.{eqb-true, ne_eqb, le-leb, lt-leb}
 use Rattle.words.specs.Choice.{pick, both, every}
-use Rattle.words.specs.Digits.{max_pixel}
-use Rattle.words.specs.Digits.{depths}
-use Rattle.settings.specs.Sizes.{max_moves, within}
+use Rattle.words.specs.Digits.{last_depth}
+use Rattle.settings.specs.Sizes.{max_moves}
 use Rattle.settings.specs.declared.Settings.{Settings}
 use Rattle.record.specs.declared.Head.{Head}
 use Rattle.record.specs.Kinds.{kind_no}
 use Rattle.record.specs.Layout.{head_at, moves_at, move_at, first_moves, load}
+use Rattle.record.proofs.Numbers.{last_unknown}
 use Rattle.record.proofs.Pieces.{length-first}
-use Rattle.record.specs.Fits.{on_chain, has_node, call_fits, inner_fits, outer_fits, moves_fit, moving_fits, viewing, role_fits, viewer_told, answer_fits, fits_by, fits}
+use Rattle.record.specs.Fits.{call_fits, inner_fits, outer_fits, moves_fit, moving_fits, role_fits, answer_fits, fits_by, fits}
 
-module _ (k : ℕ) where
-  pub chain_low : {b : Bool} → b ≡ leb 5 k → leb k 10 ≡ true → b ≡ on_chain k
-  unfolding on_chain pick
-  chain_low a t = simp (a, t)
+-- outer_fit goes through the Moves from the outermost on
+with_true : (x : Bool) → (x && true) ≡ both x true
+unfolding both
+with_true true = refl
+with_true false = refl
 
-  pub chain_high : {b x y : Bool} → b ≡ both x y → y ≡ leb k 21 → x ≡ leb 17 k → leb k 10 ≡ false → b ≡ on_chain k
-  unfolding on_chain pick
-  chain_high a b c t = simp (a, b, c, t)
+past_first : (x y z : Bool) → (x && both y z) ≡ both y (x && z)
+unfolding both
+past_first true y z = refl
+past_first false true z = refl
+past_first false false z = refl
 
-module _ (s : Settings) (k : ℕ) where
-  pub call_on :
-      (h : Head) {b p c : Bool}
-      → b ≡ both p c → c ≡ within h.count (s.limit + 1) → on_chain k ≡ true → p ≡ leb h.pixel max_pixel → b ≡ call_fits s k h
-  unfolding call_fits pick
-  call_on h a b t d = simp (a, b, t, d)
+all_more : (f : ℕ → Bool) (a n : ℕ) → list_all f (range_with_len a (suc n)) ≡ both (f (a + n)) (list_all f (range_with_len a n))
+all_more f a zero = rw add-zero (with_true (f a))
+all_more f a (suc n) =
+    let e : a + 1 + n ≡ a + suc n = omega arith in
+    rw (all_more f (a + 1) n, e) (past_first (f a) (f (a + suc n)) _)
 
-  pub call_off : (h : Head) {b p : Bool} → b ≡ both p true → on_chain k ≡ false → p ≡ leb h.pixel max_pixel → b ≡ call_fits s k h
-  unfolding call_fits pick
-  call_off h a t d = simp (a, t, d)
+pub all_moves : (s : Settings) (l : List ℕ) (i n : ℕ) → list_all (λ j. outer_fits s (move_at l i j)) (range_with_len 0 n) ≡ every (outer_fits s) (first_moves l i n)
+unfolding every first_moves
+all_moves s l i zero = refl
+all_moves s l i (suc n) =
+    all_more (λ j. outer_fits s (move_at l i j)) 0 n ∙ rw (zero-add, all_moves s l i n)
 
-  pub inner_on_lem : (c : ℕ) {b : Bool} → b ≡ within c s.limit → has_node k ≡ true → b ≡ inner_fits s k c
-  unfolding inner_fits pick
-  inner_on_lem c a t = simp (a, t)
-
-  pub inner_off : (c : ℕ) {b : Bool} → b ≡ eqb c 0 → has_node k ≡ false → b ≡ inner_fits s k c
-  unfolding inner_fits pick
-  inner_off c a t = simp (a, t)
-
--- role_fits and idle_fits: of a viewer, and of another worker
-module _ {v : Bool} where
-  pub role_on : (k : ℕ) {b : Bool} → b ≡ viewing k → v ≡ true → b ≡ role_fits v k
-  unfolding role_fits pick
-  role_on k a t = simp (a, t)
-
-  pub role_off : (k : ℕ) → v ≡ false → true ≡ role_fits v k
-  unfolding role_fits pick
-  role_off k t = simp t
-
-  pub told_on : (a : ℕ) {b : Bool} → b ≡ viewer_told a → v ≡ true → b ≡ answer_fits v a
-  unfolding answer_fits pick
-  told_on a c t = simp (c, t)
-
-  pub told_low : (a : ℕ) → leb a 3 ≡ true → v ≡ false → true ≡ answer_fits v a
-  unfolding answer_fits pick
-  told_low a l t = simp (l, t)
-
--- past 3 an answer is a viewer's alone
-pub told_high : (v : Bool) (a : ℕ) {b t : Bool} → b ≡ both v t → t ≡ viewer_told a → leb a 3 ≡ false → b ≡ answer_fits v a
-unfolding answer_fits both pick
-told_high true a c t h = c ∙ t
-told_high false a c t h = c ∙ sym h
-
--- outer_fit: no Move yet, one more, and all
-module _ (w : ℕ) (s : Settings) (l : List ℕ) (i : ℕ) where
-  pub outer-none : true ≡ every (outer_fits s) (first_moves l i 0)
-  unfolding every first_moves
-  outer-none = refl
-
-  pub outer-more :
-      (j : ℕ) {b x y : Bool} {c : ℕ}
-      → b ≡ both x y → x ≡ within c s.limit → c ≡ (move_at l i j).count → y ≡ every (outer_fits s) (first_moves l i j)
-      → b ≡ every (outer_fits s) (first_moves l i (j + 1))
-  unfolding every outer_fits first_moves
-  outer-more j a b c d = rw add-one (simp (a, b, c, d))
-
-  pub outer-all :
-      (j n : ℕ) {b : Bool} → b ≡ every (outer_fits s) (first_moves l i j) → j ≤ n → n ≤ j → b ≡ every (outer_fits s) (first_moves l i n)
-  outer-all j n a h h' = let e : j ≡ n = omega arith in rw e at a
-
-module _ (w : ℕ) (s : Settings) (k : ℕ) (l : List ℕ) (i : ℕ) where
-  pub moves_none : (n : ℕ) → n ≡ 0 → false ≡ moves_fit s k (first_moves l i n)
+module _ (s : Settings) (k : ℕ) (l : List ℕ) (i : ℕ) where
+  pub moves_none : (n : ℕ) → n ≡ 0 → moves_fit s k (first_moves l i n) ≡ false
   unfolding moves_fit first_moves
   moves_none n e = simp e
 
   pub moves_some :
-      (n : ℕ) {b x y : Bool} {c : ℕ}
-      → b ≡ both x y → y ≡ every (outer_fits s) (first_moves l i (n - 1)) → x ≡ inner_fits s k c → c ≡ (move_at l i (n - 1)).count → (n ≡ 0 → ⊥)
-      → b ≡ moves_fit s k (first_moves l i n)
+      (n : ℕ) → (n ≡ 0 → ⊥)
+      → moves_fit s k (first_moves l i n) ≡ both (inner_fits s k (move_at l i (n - 1)).count) (every (outer_fits s) (first_moves l i (n - 1)))
   unfolding moves_fit first_moves
-  moves_some zero a b c d e = absurd (e refl)
-  moves_some (suc n) a b c d e = let m : suc n - 1 ≡ n = omega arith in simp (a, b, c, d, m)
+  moves_some zero e = absurd (e refl)
+  moves_some (suc n) e = let m : suc n - 1 ≡ n = omega arith in simp m
 
-  pub moving_some :
-      (n : ℕ) {b : Bool} {d : ℕ} → b ≡ moves_fit s k (first_moves l i n) → leb n d ≡ true → d ≡ depths w - 1 → b ≡ moving_fits w s k (first_moves l i n)
-  unfolding moving_fits max_moves pick
-  moving_some n a t e = rw length-first (simp (← e, t, a))
-
-  pub moving_many : (n : ℕ) {d : ℕ} → leb n d ≡ false → d ≡ depths w - 1 → false ≡ moving_fits w s k (first_moves l i n)
-  unfolding moving_fits max_moves pick
-  moving_many n t e = rw length-first (simp (← e, t))
+  pub moving_is : (w n : ℕ) → moving_fits w s k (first_moves l i n) ≡ pick (leb n (last_depth w)) (moves_fit s k (first_moves l i n)) false
+  unfolding moving_fits max_moves
+  moving_is w n = rw length-first
 
 -- search_fits, move_fits and fits: the head h of worker i, with the number k of its kind
 -- another worker than a viewer may be at any kind
@@ -117,48 +67,48 @@ role_any : (k : ℕ) → role_fits false k ≡ true
 unfolding role_fits pick
 role_any k = refl
 
-module _ (w : ℕ) (s : Settings) (l : List ℕ) (i : ℕ) {k : ℕ} {h : Head} where
-  pub fits_search :
-      {b x y : Bool} {m : ℕ}
-      → b ≡ both x y → y ≡ eqb m 0 → m ≡ moves_at l i → x ≡ call_fits s k h → k ≡ kind_no h.kind → h ≡ head_at l i → 1 ≤ kind_no h.kind → kind_no h.kind ≤ 10
-      → b ≡ fits w false s (load l i)
-  unfolding fits fits_by load pick both
-  fits_search a b m c e f low high =
-      simp (a, b, m, c, ← f, ← e, ne_eqb k 0 (λ z. omega arith), le-leb k 10 (omega arith), role_any, length-first)
+module _ (w : ℕ) (s : Settings) (l : List ℕ) (i : ℕ) where
+  abbrev h : Head
+  h = head_at l i
 
-  pub fits_move :
-      {b x y : Bool} {m : ℕ}
-      → b ≡ both x y → y ≡ moving_fits w s k (first_moves l i m) → x ≡ call_fits s k h → leb k 22 ≡ true → m ≡ moves_at l i → k ≡ kind_no h.kind → h ≡ head_at l i → 11 ≤ kind_no h.kind
-      → b ≡ fits w false s (load l i)
-  unfolding fits fits_by load pick both
-  fits_move a b c t m e f low =
-      simp (a, b, c, ← m, ← f, ← e, ne_eqb k 0 (λ z. omega arith), lt-leb k 10 (omega arith), role_any, t)
+  abbrev k : ℕ
+  k = kind_no h.kind
 
-  pub fits_unknown : leb k 22 ≡ false → k ≡ kind_no h.kind → h ≡ head_at l i → 11 ≤ kind_no h.kind → false ≡ fits w false s (load l i)
+  pub search_is : 1 ≤ k → k ≤ 10 → fits w false s (load l i) ≡ both (call_fits s k h) (eqb (moves_at l i) 0)
   unfolding fits fits_by load pick both
-  fits_unknown t e f low = simp (← f, ← e, ne_eqb k 0 (λ z. omega arith), lt-leb k 10 (omega arith), role_any, t)
+  search_is low high = simp (ne_eqb k 0 (λ z. omega arith), le-leb k 10 high, role_any, length-first)
 
+  -- all kinds from 11 on but Unknown are of a Move
+  pub move_is :
+      11 ≤ k → eqb k 23 ≡ false
+      → fits w false s (load l i) ≡ both (call_fits s k h) (moving_fits w s k (first_moves l i (moves_at l i)))
+  unfolding fits fits_by load pick both
+  move_is low e = simp (ne_eqb k 0 (λ z. omega arith), lt-leb k 10 (omega arith), role_any, last_unknown h.kind, e)
+
+  pub unknown_is : eqb k 23 ≡ true → fits w false s (load l i) ≡ false
+  unfolding fits fits_by load pick both
+  unknown_is e = let n : k ≡ 23 = eqb-true _ _ e in simp (n, role_any)
+
+  -- an idle worker's record, and that of an open call: its kind is one of its sort of worker, and it fits as any other worker's
+  pub idle_is : (v : Bool) → eqb k 0 ≡ true → fits w v s (load l i) ≡ answer_fits v h.answer
+  unfolding fits fits_by load pick
+  idle_is v e = simp e
+
+  pub role_is : (v : Bool) → eqb k 0 ≡ false → role_fits v k ≡ true → fits w v s (load l i) ≡ fits w false s (load l i)
+  unfolding fits fits_by load pick both
+  role_is v e r = simp (e, r, role_any)
+
+  pub no_role_is : (v : Bool) → eqb k 0 ≡ false → role_fits v k ≡ false → fits w v s (load l i) ≡ false
+  unfolding fits fits_by load pick both
+  no_role_is v e r = simp (e, r)
+
+-- the same of a kind by its number, from what the called functions give
 module _ (w : ℕ) (v : Bool) (s : Settings) (l : List ℕ) (i : ℕ) {k : ℕ} {h : Head} where
   pub fits-idle : {b : Bool} → b ≡ answer_fits v h.answer → eqb k 0 ≡ true → k ≡ kind_no h.kind → h ≡ head_at l i → b ≡ fits w v s (load l i)
-  unfolding fits fits_by load pick
-  fits-idle a t b c = simp (a, ← c, ← b, t)
+  fits-idle a t e f = a ∙ rw f (sym (idle_is w s l i v (rw (← f, ← e) t)))
 
-  -- an open call: its kind is one of its sort of worker, and the record fits as any other worker's
   pub fits_role : {b z : Bool} → b ≡ fits w false s (load l i) → z ≡ role_fits v k → z ≡ true → (k ≡ 0 → ⊥) → k ≡ kind_no h.kind → h ≡ head_at l i → b ≡ fits w v s (load l i)
-  unfolding fits fits_by load pick both
-  fits_role a y t n e f = a ∙ simp (← f, ← e, ne_eqb k 0 n, role_any, sym y ∙ t)
+  fits_role a y t n e f = a ∙ sym (role_is w s l i v (rw (← f, ← e) (ne_eqb k 0 n)) (rw (← f, ← e) (sym y ∙ t)))
 
   pub fits_no_role : {z : Bool} → z ≡ role_fits v k → z ≡ false → (k ≡ 0 → ⊥) → k ≡ kind_no h.kind → h ≡ head_at l i → false ≡ fits w v s (load l i)
-  unfolding fits fits_by load pick both
-  fits_no_role y t n e f = simp (← f, ← e, ne_eqb k 0 n, sym y ∙ t)
-
--- the number of a head's kind, from the tests that led on
-module _ (h : Head) {k : ℕ} where
-  pub kind_open : k ≡ kind_no h.kind → (k ≡ 0 → ⊥) → 1 ≤ kind_no h.kind
-  kind_open e z = let y : kind_no h.kind ≢ 0 = λ u. z (e ∙ u) in omega arith
-
-  pub kind_low : k ≡ kind_no h.kind → k ≤ 10 → kind_no h.kind ≤ 10
-  kind_low e z = omega arith
-
-  pub kind_high : k ≡ kind_no h.kind → 10 < k → 11 ≤ kind_no h.kind
-  kind_high e z = omega arith
+  fits_no_role y t n e f = sym (no_role_is w s l i v (rw (← f, ← e) (ne_eqb k 0 n)) (rw (← f, ← e) (sym y ∙ t)))

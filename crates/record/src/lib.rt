@@ -5,17 +5,17 @@
 
 ghost use Rattle.std.specs.Prelude.{◌≡◌, false, ◌+◌, ◌*◌, ◌≤◌, leb, eqb, length};
 ghost use Rattle.words.specs.Choice.{every};
-ghost use Rattle.settings.specs.Sizes.{max_limit, worker_words, within};
+ghost use Rattle.settings.specs.Sizes.{max_limit, worker_words};
 ghost use Rattle.words.specs.Digits.{DigitWidth};
 ghost use Rattle.record.specs.Kinds.{kind_of, kind_no, answer_of};
 ghost use Rattle.record.specs.Layout.{worker_place, move_place, head_from, head_list, head_at, moves_at, move_at, first_moves, load, store_head, move_to, new_move};
 ghost use Rattle.record.specs.Fits.{on_chain, has_node, call_fits, inner_fits, outer_fits, moves_fit, moving_fits, viewing, role_fits, viewer_told, answer_fits, fits};
 
 use settings::{Settings, last_depth, within};
-use words::{and, at, copy_in, copy_out, eq, le};
+use words::{at, copy_in, copy_out};
 
-// The kinds of turn. Idle: no call is open. Unknown: a number that is no kind.
-#[derive(Clone, Copy)]
+// The kinds of turn, in the order of their numbers. Idle: no call is open. Unknown: a number that is no kind.
+#[derive(Clone, Copy, PartialEq, Eq, PartialOrd, Ord)]
 pub enum Kind {
     Idle,
     Look,
@@ -44,7 +44,7 @@ pub enum Kind {
 }
 
 // What an operation answers. Nothing: document 01's "none". Open: a call is open or goes on. Absent: a viewer's pixel is not placed.
-#[derive(Clone, Copy)]
+#[derive(Clone, Copy, PartialEq, Eq)]
 pub enum Answer {
     Nothing,
     New(u32),
@@ -54,15 +54,16 @@ pub enum Answer {
     Absent,
 }
 
-// What a turn's exchange came to. None: the turn makes no exchange.
-#[derive(Clone, Copy)]
+// What a turn's exchange came to. None: the turn makes no exchange. Three names, which the contracts cite: an Option of a test would not show which is which.
+#[derive(Clone, Copy, PartialEq, Eq)]
 pub enum Exchange {
     None,
     Done,
     Failed,
 }
 
-// What an operation gives back. The number is 0 where it was carried out, else that of the refusal.
+// What an operation gives back. The number is 0 where it was carried out, else that of the refusal: "full" has both a number and an answer, and `reply`, over which the
+// theorems stand, has the number.
 #[derive(Clone, Copy)]
 pub struct Reply {
     pub number: u32,
@@ -72,6 +73,7 @@ pub struct Reply {
 }
 
 // The numbers of a call. A held node or level is its number + 1, or 0: in hand in Put, Append, Close and SetClose, else spare.
+// They stay as the words have them (head_from and head_list of specs/Layout): whether an answer's number is one is what fits asks.
 #[derive(Clone, Copy)]
 pub struct Head {
     pub kind: Kind,
@@ -86,6 +88,7 @@ pub struct Head {
 }
 
 // A Move of the chain of an entry of `home` to `child`: the nodes remembered are the first `count`.
+// The layout has all eight words and any count (move_from and move_to of specs/Layout), so that `nodes` is no list of `count` nodes.
 #[derive(Clone, Copy)]
 pub struct Move {
     pub home: u32,
@@ -94,69 +97,61 @@ pub struct Move {
     pub nodes: [u32; 8],
 }
 
-pub fn kind_no(k: Kind) -> u32
-    ensures { result ≡ kind_no k }
-{
-    match k {
-        Kind::Idle => 0,
-        Kind::Look => 1,
-        Kind::Take => 2,
-        Kind::Put => 3,
-        Kind::Read => 4,
-        Kind::Tail => 5,
-        Kind::TakeTail => 6,
-        Kind::Append => 7,
-        Kind::Level => 8,
-        Kind::Close => 9,
-        Kind::Follow => 10,
-        Kind::ChainHead => 11,
-        Kind::ChainNext => 12,
-        Kind::SetNext => 13,
-        Kind::SetLook => 14,
-        Kind::SetPut => 15,
-        Kind::SetRead => 16,
-        Kind::SetTail => 17,
-        Kind::SetAppend => 18,
-        Kind::SetLevel => 19,
-        Kind::SetClose => 20,
-        Kind::SetFollow => 21,
-        Kind::MoveEnd => 22,
-        Kind::Unknown => 23,
+impl Kind {
+    // A search's kind, or Idle: it stands before those of a Move.
+    #[tactic(auto, unfolding(crate::specs::Kinds::kind_no))]
+    pub fn searches(self) -> bool
+        ensures { result ≡ leb (kind_no self) 10 }
+    {
+        self <= Self::Follow
     }
 }
 
-fn kind_of(n: u32) -> Kind
-    ensures { result ≡ kind_of n }
-{
-    match n {
-        0 => Kind::Idle,
-        1 => Kind::Look,
-        2 => Kind::Take,
-        3 => Kind::Put,
-        4 => Kind::Read,
-        5 => Kind::Tail,
-        6 => Kind::TakeTail,
-        7 => Kind::Append,
-        8 => Kind::Level,
-        9 => Kind::Close,
-        10 => Kind::Follow,
-        11 => Kind::ChainHead,
-        12 => Kind::ChainNext,
-        13 => Kind::SetNext,
-        14 => Kind::SetLook,
-        15 => Kind::SetPut,
-        16 => Kind::SetRead,
-        17 => Kind::SetTail,
-        18 => Kind::SetAppend,
-        19 => Kind::SetLevel,
-        20 => Kind::SetClose,
-        21 => Kind::SetFollow,
-        22 => Kind::MoveEnd,
-        _ => Kind::Unknown,
+impl From<Kind> for u32 {
+    ghost from_gives = { λ k n. n ≡ kind_no k };
+
+    #[tactic(auto, unfolding(crate::specs::Kinds::kind_no))]
+    fn from(k: Kind) -> u32 {
+        k as u32
+    }
+}
+
+impl From<u32> for Kind {
+    ghost from_gives = { λ n k. k ≡ kind_of n };
+
+    #[tactic(auto, unfolding(crate::specs::Kinds::kind_of, crate::specs::Kinds::kinds))]
+    fn from(n: u32) -> Self {
+        match n {
+            0 => Self::Idle,
+            1 => Self::Look,
+            2 => Self::Take,
+            3 => Self::Put,
+            4 => Self::Read,
+            5 => Self::Tail,
+            6 => Self::TakeTail,
+            7 => Self::Append,
+            8 => Self::Level,
+            9 => Self::Close,
+            10 => Self::Follow,
+            11 => Self::ChainHead,
+            12 => Self::ChainNext,
+            13 => Self::SetNext,
+            14 => Self::SetLook,
+            15 => Self::SetPut,
+            16 => Self::SetRead,
+            17 => Self::SetTail,
+            18 => Self::SetAppend,
+            19 => Self::SetLevel,
+            20 => Self::SetClose,
+            21 => Self::SetFollow,
+            22 => Self::MoveEnd,
+            _ => Self::Unknown,
+        }
     }
 }
 
 // The answer of a stored number and node.
+#[tactic(auto, unfolding(crate::specs::Kinds::answer_of))]
 pub fn answer_of(code: u32, node: u32) -> Answer
     ensures { result ≡ answer_of code node }
 {
@@ -170,6 +165,7 @@ pub fn answer_of(code: u32, node: u32) -> Answer
 }
 
 // The first word of worker i.
+#[tactic(auto, unfolding(crate::specs::Layout::worker_place))]
 pub fn worker_place(i: u32) -> usize
     ensures { (result ≡ worker_place i) × (result ≤ 1099511627520) }
 {
@@ -177,6 +173,7 @@ pub fn worker_place(i: u32) -> usize
 }
 
 // The first word of Move j of worker i.
+#[tactic(auto, unfolding(crate::specs::Layout::move_place))]
 pub fn move_place(i: u32, j: u32) -> usize
     ensures { (result ≡ move_place i j) × (result ≤ 1200000000000) }
 {
@@ -184,6 +181,7 @@ pub fn move_place(i: u32, j: u32) -> usize
 }
 
 // The number of Moves of worker i.
+#[tactic(auto, unfolding(crate::specs::Layout::moves_at))]
 pub fn moves_at(words: &[u32], i: u32) -> u32
     ensures { result ≡ moves_at words.now i }
 {
@@ -191,13 +189,15 @@ pub fn moves_at(words: &[u32], i: u32) -> u32
 }
 
 // Worker i is idle, which its first word tells.
+#[tactic(auto, using(words::proofs::Blocks::get_d_cells, crate::proofs::Numbers::number_zero), unfolding(crate::specs::Layout::head_at, crate::specs::Layout::head_from))]
 pub fn idle_at(words: &[u32], i: u32) -> bool
     ensures { result ≡ eqb (kind_no (head_at words.now i).kind) 0 }
 {
-    eq(at(words, worker_place(i)), 0)
+    at(words, worker_place(i)) == 0
 }
 
 // The number of worker i's last answer.
+#[tactic(auto, using(words::proofs::Blocks::get_d_cells), unfolding(crate::specs::Layout::head_at, crate::specs::Layout::head_from))]
 pub fn answer_at(words: &[u32], i: u32) -> u32
     ensures { result ≡ (head_at words.now i).answer }
 {
@@ -205,18 +205,20 @@ pub fn answer_at(words: &[u32], i: u32) -> u32
 }
 
 // The words of worker i are there. Who has tested it once reads and writes them without further tests.
+#[tactic(auto, unfolding(crate::specs::Layout::worker_place))]
 pub fn inside(words: &[u32], i: u32) -> bool
     ensures { result ≡ leb (worker_words * i + worker_words) (length words.now) }
 {
     worker_place(i) + (Settings::WORKER_WORDS as usize) <= words.len()
 }
 
-impl Head {
-    fn from_words(b: [u32; 9]) -> Head
-        ensures { result ≡ head_from b }
-    {
-        Head {
-            kind: kind_of(b[0]),
+impl From<[u32; 9]> for Head {
+    ghost from_gives = { λ b h. h ≡ head_from b };
+
+    #[tactic(auto, unfolding(crate::specs::Layout::head_from))]
+    fn from(b: [u32; 9]) -> Self {
+        Self {
+            kind: Kind::from(b[0]),
             pixel: b[1],
             level: b[2],
             node: b[3],
@@ -227,14 +229,16 @@ impl Head {
             answer_node: b[8],
         }
     }
+}
 
+impl Head {
     // The head's words, and behind them the number of Moves.
+    #[tactic(auto, unfolding(crate::specs::Layout::head_list))]
     fn to_words(self, moves: u32) -> [u32; 10]
         ensures { result ≡ head_list self moves }
     {
-        let k = self.kind;
         [
-            kind_no(k),
+            u32::from(self.kind),
             self.pixel,
             self.level,
             self.node,
@@ -247,91 +251,81 @@ impl Head {
         ]
     }
 
-    pub fn load(words: &[u32], i: u32) -> Head
+    #[tactic(auto, unfolding(crate::specs::Layout::head_at))]
+    pub fn load(words: &[u32], i: u32) -> Self
         ensures { result ≡ head_at words.now i }
     {
         let mut b = [0u32; 9];
         copy_out(words, worker_place(i), &mut b);
-        Head::from_words(b)
+        Self::from(b)
     }
 
+    #[tactic(auto, unfolding(crate::specs::Layout::store_head))]
     pub fn store(self, moves: u32, words: &mut [u32], i: u32)
         ensures { words.new ≡ store_head self moves i words.old }
     {
-        let b = self.to_words(moves);
-        copy_in(words, worker_place(i), &b);
+        copy_in(words, worker_place(i), &self.to_words(moves));
     }
 }
 
 impl Move {
-    pub fn fresh(home: u32, child: u32) -> Move
+    #[tactic(auto, unfolding(crate::specs::Layout::new_move))]
+    pub fn fresh(home: u32, child: u32) -> Self
         ensures { result ≡ new_move home child }
     {
-        Move {
-            home: home,
-            child: child,
+        Self {
+            home,
+            child,
             count: 0,
             nodes: [0u32; 8],
         }
     }
 
+    #[tactic(auto, unfolding(crate::specs::Layout::move_to))]
     pub fn store(self, words: &mut [u32], i: u32, j: u32)
         ensures { words.new ≡ move_to self (move_place i j) words.old }
     {
         let p = move_place(i, j);
-        let f = [self.home, self.child, self.count];
-        let n = self.nodes;
-        copy_in(words, p, &f);
-        copy_in(words, p + 3, &n);
+        copy_in(words, p, &[self.home, self.child, self.count]);
+        copy_in(words, p + 3, &self.nodes);
     }
 }
 
-fn on_chain(k: u32) -> bool
-    ensures { result ≡ on_chain k }
+#[tactic(auto, unfolding(crate::specs::Kinds::kind_no, crate::specs::Fits::on_chain, words::specs::Choice::pick, words::specs::Choice::both))]
+fn on_chain(k: Kind) -> bool
+    ensures { result ≡ on_chain (kind_no k) }
 {
-    if k <= 10 {
-        le(5, k)
-    } else {
-        and(le(17, k), le(k, 21))
-    }
+    (Kind::Tail <= k && k <= Kind::Follow) | (Kind::SetTail <= k && k <= Kind::SetFollow)
 }
 
-fn count_fits(s: Settings, count: u32) -> bool
+#[tactic(auto, unfolding(crate::specs::Fits::call_fits, words::specs::Choice::pick, words::specs::Choice::both))]
+fn call_fits(s: Settings, h: Head) -> bool
     requires { s.limit ≤ max_limit }
-    ensures { result ≡ within count (s.limit + 1) }
+    ensures { result ≡ call_fits s (kind_no h.kind) h }
 {
-    within(count, s.limit + 1)
+    (h.pixel <= Settings::MAX_PIXEL) & (!on_chain(h.kind) | within(h.count, s.limit + 1))
 }
 
-fn call_fits(s: Settings, k: u32, h: Head) -> bool
-    requires { s.limit ≤ max_limit }
-    ensures { result ≡ call_fits s k h }
+#[tactic(auto, unfolding(crate::specs::Kinds::kind_no, crate::specs::Fits::has_node, words::specs::Choice::both))]
+fn has_node(k: Kind) -> bool
+    ensures { result ≡ has_node (kind_no k) }
 {
-    let p = le(h.pixel, Settings::MAX_PIXEL);
-    if on_chain(k) {
-        and(p, count_fits(s, h.count))
-    } else {
-        and(p, true)
-    }
+    Kind::ChainNext <= k && k <= Kind::SetFollow
 }
 
-fn has_node(k: u32) -> bool
-    ensures { result ≡ has_node k }
-{
-    and(le(12, k), le(k, 21))
-}
-
-fn inner_fits(s: Settings, k: u32, count: u32) -> bool
-    ensures { result ≡ inner_fits s k count }
+#[tactic(auto, unfolding(crate::specs::Fits::inner_fits, words::specs::Choice::pick))]
+fn inner_fits(s: Settings, k: Kind, count: u32) -> bool
+    ensures { result ≡ inner_fits s (kind_no k) count }
 {
     if has_node(k) {
         within(count, s.limit)
     } else {
-        eq(count, 0)
+        count == 0
     }
 }
 
 // The number of nodes that Move j of worker i remembers.
+#[tactic(auto, unfolding(crate::specs::Layout::move_at, crate::specs::Layout::move_from))]
 fn move_count(words: &[u32], i: u32, j: u32) -> u32
     ensures { result ≡ (move_at words.now i j).count }
 {
@@ -342,61 +336,43 @@ fn move_count(words: &[u32], i: u32, j: u32) -> u32
 fn outer_fit(s: Settings, words: &[u32], i: u32, n: u32) -> bool
     ensures { result ≡ every (outer_fits s) (first_moves words.now i n) }
 {
-    let mut ok = true;
-    let mut j = 0;
-    while j < n {
-        ok = and(within(move_count(words, i, j), s.limit), ok);
-        j += 1;
-    }
-    ok
+    (0..n).all(|j| within(move_count(words, i, j), s.limit))
 }
 
-fn moves_fit(s: Settings, k: u32, words: &[u32], i: u32, n: u32) -> bool
-    ensures { result ≡ moves_fit s k (first_moves words.now i n) }
+#[tactic(auto, using(crate::proofs::Tests::moves_none, crate::proofs::Tests::moves_some), unfolding(words::specs::Choice::both))]
+fn moves_fit(s: Settings, k: Kind, words: &[u32], i: u32, n: u32) -> bool
+    ensures { result ≡ moves_fit s (kind_no k) (first_moves words.now i n) }
 {
-    if n == 0 {
-        false
-    } else {
-        and(
-            inner_fits(s, k, move_count(words, i, n - 1)),
-            outer_fit(s, words, i, n - 1),
-        )
-    }
+    n > 0 && inner_fits(s, k, move_count(words, i, n - 1)) && outer_fit(s, words, i, n - 1)
 }
 
 // A moving worker's Moves, given their number.
-fn moving_fits(s: Settings, k: u32, words: &[u32], i: u32, n: u32) -> bool
+#[tactic(auto, using(crate::proofs::Tests::moving_is), unfolding(words::specs::Choice::pick))]
+fn moving_fits(s: Settings, k: Kind, words: &[u32], i: u32, n: u32) -> bool
     requires { DigitWidth s.width }
-    ensures { result ≡ moving_fits s.width s k (first_moves words.now i n) }
+    ensures { result ≡ moving_fits s.width s (kind_no k) (first_moves words.now i n) }
 {
-    if n <= last_depth(s.width) {
-        moves_fit(s, k, words, i, n)
-    } else {
-        false
-    }
+    n <= last_depth(s.width) && moves_fit(s, k, words, i, n)
 }
 
-// The kinds of a viewer's call, by number.
-pub fn viewing(k: u32) -> bool
-    ensures { result ≡ viewing k }
+// The kinds of a viewer's call.
+#[tactic(auto, unfolding(crate::specs::Kinds::kind_no, crate::specs::Fits::viewing, words::specs::Choice::pick))]
+pub fn viewing(k: Kind) -> bool
+    ensures { result ≡ viewing (kind_no k) }
 {
-    match k {
-        1 => true,
-        4 => true,
-        5 => true,
-        10 => true,
-        _ => false,
-    }
+    matches!(k, Kind::Look | Kind::Read | Kind::Tail | Kind::Follow)
 }
 
 // An open call's kind is one of a viewer's, if v says that the worker is a viewer.
-fn role_fits(v: bool, k: u32) -> bool
-    ensures { result ≡ role_fits v k }
+#[tactic(auto, unfolding(crate::specs::Fits::role_fits, words::specs::Choice::pick))]
+fn role_fits(v: bool, k: Kind) -> bool
+    ensures { result ≡ role_fits v (kind_no k) }
 {
-    if v { viewing(k) } else { true }
+    !v || viewing(k)
 }
 
 // The record of worker i with the head h of a search fits its layout. Of a viewer this is asked at one of a viewer's kinds alone.
+#[tactic(auto, using(crate::proofs::Tests::search_is), unfolding(words::specs::Choice::both))]
 pub fn search_fits(s: Settings, h: Head, words: &[u32], i: u32) -> bool
     requires limit_le_max_limit { s.limit ≤ max_limit }
     requires h_value { h ≡ head_at words.now i }
@@ -404,12 +380,11 @@ pub fn search_fits(s: Settings, h: Head, words: &[u32], i: u32) -> bool
     requires kind_bound { kind_no h.kind ≤ 10 }
     ensures { result ≡ fits s.width false s (load words.now i) }
 {
-    let kind = h.kind;
-    let k = kind_no(kind);
-    and(call_fits(s, k, h), eq(moves_at(words, i), 0))
+    call_fits(s, h) & (moves_at(words, i) == 0)
 }
 
 // The same, where its head h is that of a Move or of no kind.
+#[tactic(auto, using(crate::proofs::Numbers::tag_no, crate::proofs::Tests::move_is, crate::proofs::Tests::unknown_is), unfolding(words::specs::Choice::both))]
 pub fn move_fits(s: Settings, h: Head, words: &[u32], i: u32) -> bool
     requires digit_width { DigitWidth s.width }
     requires limit_le_max_limit { s.limit ≤ max_limit }
@@ -417,37 +392,25 @@ pub fn move_fits(s: Settings, h: Head, words: &[u32], i: u32) -> bool
     requires bound { 11 ≤ kind_no h.kind }
     ensures { result ≡ fits s.width false s (load words.now i) }
 {
-    let kind = h.kind;
-    let k = kind_no(kind);
-    let m = moves_at(words, i);
-    if k <= 22 {
-        and(call_fits(s, k, h), moving_fits(s, k, words, i, m))
-    } else {
-        false
-    }
+    h.kind != Kind::Unknown
+        && call_fits(s, h)
+        && moving_fits(s, h.kind, words, i, moves_at(words, i))
 }
 
 // The last answers of a viewer, by number.
+#[tactic(auto, unfolding(crate::specs::Fits::viewer_told, words::specs::Choice::pick))]
 fn viewer_told(a: u32) -> bool
     ensures { result ≡ viewer_told a }
 {
-    match a {
-        0 => true,
-        2 => true,
-        5 => true,
-        _ => false,
-    }
+    matches!(a, 0 | 2 | 5)
 }
 
 // An idle worker's record fits its layout, by the number of its last answer.
+#[tactic(auto, unfolding(crate::specs::Fits::answer_fits, words::specs::Choice::pick))]
 pub fn idle_fits(v: bool, answer: u32) -> bool
     ensures { result ≡ answer_fits v answer }
 {
-    if answer <= 3 {
-        if v { viewer_told(answer) } else { true }
-    } else {
-        and(v, viewer_told(answer))
-    }
+    if v { viewer_told(answer) } else { answer <= 3 }
 }
 
 // The record of worker i with the head h of an open call fits its layout, whatever its kind. Of a viewer this is asked at one of a viewer's kinds alone.
@@ -458,8 +421,7 @@ fn open_fits(s: Settings, h: Head, words: &[u32], i: u32) -> bool
     requires bound { 1 ≤ kind_no h.kind }
     ensures { result ≡ fits s.width false s (load words.now i) }
 {
-    let kind = h.kind;
-    if kind_no(kind) <= 10 {
+    if h.kind.searches() {
         search_fits(s, h, words, i)
     } else {
         move_fits(s, h, words, i)
@@ -467,21 +429,16 @@ fn open_fits(s: Settings, h: Head, words: &[u32], i: u32) -> bool
 }
 
 // The record of worker i with the head h fits its layout.
+#[tactic(auto, using(crate::proofs::Numbers::tag_no, crate::proofs::Tests::idle_is, crate::proofs::Tests::role_is, crate::proofs::Tests::no_role_is))]
 pub fn fits(v: bool, s: Settings, h: Head, words: &[u32], i: u32) -> bool
     requires digit_width { DigitWidth s.width }
     requires limit_le_max_limit { s.limit ≤ max_limit }
     requires h_value { h ≡ head_at words.now i }
     ensures { result ≡ fits s.width v s (load words.now i) }
 {
-    let kind = h.kind;
-    let k = kind_no(kind);
-    if k == 0 {
+    if h.kind == Kind::Idle {
         idle_fits(v, h.answer)
     } else {
-        if role_fits(v, k) {
-            open_fits(s, h, words, i)
-        } else {
-            false
-        }
+        role_fits(v, h.kind) && open_fits(s, h, words, i)
     }
 }

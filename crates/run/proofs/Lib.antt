@@ -1,6 +1,5 @@
--- The laws of the run: the ways through a line and through a stage, the whole of it, and what its lines and numbers are.
+-- The laws of the run: the ways through a stage, the whole of it, and what its lines and numbers are.
 -- Relies on nothing.
-pub mod Carried
 pub mod Stages
 pub mod Run
 pub mod Given

@@ -30,8 +30,9 @@ use Rattle.rules.proofs.Carried.{opening_done}
 use Rattle.rules.proofs.Three.{Three, sizes_stay, three_stays}
 use Rattle.text.specs.Parts.{line_end, longer, split}
 use Rattle.text.specs.Commands.{command}
+use Rattle.std.specs.Prelude.{Option, Some, None}
 use Rattle.text.specs.declared.Command.{Command}
-use Rattle.text.specs.declared.Command.TheVariants.{Sizes, Starts, Views, Turns, Unread}
+use Rattle.text.specs.declared.Command.TheVariants.{Sizes, Starts, Views, Turns}
 use Rattle.run.specs.Program.{width, most_nodes, start_line, turn_prints, turn_line, carried, first_line, rest_prints, lines_print, opened_prints, input_prints, prints}
 use Rattle.run.specs.Numbers.{Five, FiveCall, Small, AllSmall, NumbersSmall}
 use Rattle.run.proofs.Given.{given_most, opening-gives, start_gives, turn-gives}
@@ -120,21 +121,21 @@ turn_five n s i a l = by (ℕ_discrete (turn s.width s i a).reply.number 0) (ℕ
         rw (ap (λ (r : Result). r.reply.answer) (turn-refused s.width s i a z e)) (l, omega arith)
 
 -- a later line: what it prints, and the settings that it leaves
-carried_five : (n : ℕ) (c : Command) (x : State) → Five n → Small (carried n c x).printed
+carried_five : (n : ℕ) (c : Option Command) (x : State) → Five n → Small (carried n c x).printed
 unfolding Small carried start_line turn_line
-carried_five n (Sizes workers limit nodes viewers) x l = (l, omega arith)
-carried_five n (Starts i row column) x l = let b = given_most (start_gives x.settings.width x.settings false i row column x.areas) in pick-both Small _ (λ e. tt) (λ e. (l, omega arith))
-carried_five n (Views i row column) x l = let b = given_most (start_gives x.settings.width x.settings true i row column x.areas) in pick-both Small _ (λ e. tt) (λ e. (l, omega arith))
-carried_five n (Turns i) x l = turn_five n x.settings i x.areas l
-carried_five n Unread x l = (l, omega arith)
+carried_five n (Some (Sizes workers limit nodes viewers)) x l = (l, omega arith)
+carried_five n (Some (Starts i row column)) x l = let b = given_most (start_gives x.settings.width x.settings false i row column x.areas) in pick-both Small _ (λ e. tt) (λ e. (l, omega arith))
+carried_five n (Some (Views i row column)) x l = let b = given_most (start_gives x.settings.width x.settings true i row column x.areas) in pick-both Small _ (λ e. tt) (λ e. (l, omega arith))
+carried_five n (Some (Turns i)) x l = turn_five n x.settings i x.areas l
+carried_five n None x l = (l, omega arith)
 
-carried_sound : (n : ℕ) (c : Command) (x : State) → Sound x.settings → Sound (carried n c x).state'.settings
+carried_sound : (n : ℕ) (c : Option Command) (x : State) → Sound x.settings → Sound (carried n c x).state'.settings
 unfolding carried start_line turn_line
-carried_sound n (Sizes workers limit nodes viewers) x y = y
-carried_sound n (Starts i row column) x y = start_sound x.settings false i row column x.areas y
-carried_sound n (Views i row column) x y = start_sound x.settings true i row column x.areas y
-carried_sound n (Turns i) x y = turn_sound x.settings i x.areas y
-carried_sound n Unread x y = y
+carried_sound n (Some (Sizes workers limit nodes viewers)) x y = y
+carried_sound n (Some (Starts i row column)) x y = start_sound x.settings false i row column x.areas y
+carried_sound n (Some (Views i row column)) x y = start_sound x.settings true i row column x.areas y
+carried_sound n (Some (Turns i)) x y = turn_sound x.settings i x.areas y
+carried_sound n None x y = y
 
 -- the lines from line n on
 rest_five : (n : ℕ) (p : List ℕ) (x : State) → Five n → Sound x.settings → AllSmall (rest_prints n p x)
@@ -152,24 +153,24 @@ lines_five n (p ∷ q ∷ ps) x l y =
     (carried_five n (command p) x (omega arith), lines_five (suc n) (q ∷ ps) (carried n (command p) x).state' (omega arith) (carried_sound n (command p) x y))
 
 -- the first line
-first-number : (c : Command) (a : Areas) → (first_line c a).reply.number ≤ 17
+first-number : (c : Option Command) (a : Areas) → (first_line c a).reply.number ≤ 17
 unfolding first_line
-first-number (Sizes workers limit nodes viewers) a =
+first-number (Some (Sizes workers limit nodes viewers)) a =
     let b = given_most (opening-gives width (fresh workers limit nodes viewers width) a) in
     pick-both (λ (r : Result). r.reply.number ≤ 17) (leb nodes most_nodes) (λ e. omega arith) (λ e. omega arith)
-first-number (Starts i row column) a = omega arith
-first-number (Views i row column) a = omega arith
-first-number (Turns i) a = omega arith
-first-number Unread a = omega arith
+first-number (Some (Starts i row column)) a = omega arith
+first-number (Some (Views i row column)) a = omega arith
+first-number (Some (Turns i)) a = omega arith
+first-number None a = omega arith
 
-first_sound : (c : Command) (a : Areas) → (first_line c a).reply.number ≡ 0 → Sound (first_line c a).reply.settings
+first_sound : (c : Option Command) (a : Areas) → (first_line c a).reply.number ≡ 0 → Sound (first_line c a).reply.settings
 unfolding first_line
-first_sound (Sizes workers limit nodes viewers) a z =
+first_sound (Some (Sizes workers limit nodes viewers)) a z =
     pick-both (λ (r : Result). r.reply.number ≡ 0 → Sound r.reply.settings) (leb nodes most_nodes) (λ e. opening_sound workers limit nodes viewers a) (λ e d. absurd (omega arith)) z
-first_sound (Starts i row column) a z = absurd (omega arith)
-first_sound (Views i row column) a z = absurd (omega arith)
-first_sound (Turns i) a z = absurd (omega arith)
-first_sound Unread a z = absurd (omega arith)
+first_sound (Some (Starts i row column)) a z = absurd (omega arith)
+first_sound (Some (Views i row column)) a z = absurd (omega arith)
+first_sound (Some (Turns i)) a z = absurd (omega arith)
+first_sound None a z = absurd (omega arith)
 
 opened_five : (r : Result) (ps : List (List ℕ)) → r.reply.number ≤ 17 → (r.reply.number ≡ 0 → Sound r.reply.settings) → Five (2 + length ps) → AllSmall (opened_prints r ps)
 unfolding AllSmall Small opened_prints

@@ -19,8 +19,9 @@ use Rattle.rules.specs.Operations.{Result}
 use Rattle.rules.specs.Lists.{State, after}
 use Rattle.text.specs.Parts.{line_end, split}
 use Rattle.text.specs.Commands.{command}
+use Rattle.std.specs.Prelude.{Option, Some, None}
 use Rattle.text.specs.declared.Command.{Command}
-use Rattle.text.specs.declared.Command.TheVariants.{Sizes, Starts, Views, Turns, Unread}
+use Rattle.text.specs.declared.Command.TheVariants.{Sizes, Starts, Views, Turns}
 use Rattle.printing.specs.declared.Printed.{Printed}
 use Rattle.printing.specs.declared.Printed.TheVariants.{Nothing, Refused}
 use Rattle.run.specs.Program.{width, most_nodes, start_line, turn_prints, turn_line, carried, first_line, rest_prints, lines_print, opened_prints, input_prints, prints}
@@ -46,13 +47,13 @@ turn-prints n i pixel number answer.Open h = refl
 turn-prints n i pixel number answer.Absent h = refl
 
 -- a later line
-carried_ten : (n : ℕ) (c : Command) (x : State) → ten_line (carried n c x).printed ≡ pick (reads_later c) [] (n ∷ [])
+carried_ten : (n : ℕ) (c : Option Command) (x : State) → ten_line (carried n c x).printed ≡ pick (reads_later c) [] (n ∷ [])
 unfolding ten_line carried start_line turn_line reads_later pick
-carried_ten n (Sizes workers limit nodes viewers) x = refl
-carried_ten n (Starts i row column) x = start-prints n _ (given-not_10 (start_gives x.settings.width x.settings false i row column x.areas))
-carried_ten n (Views i row column) x = start-prints n _ (given-not_10 (start_gives x.settings.width x.settings true i row column x.areas))
-carried_ten n (Turns i) x = turn-prints n i _ _ _ (given-not_10 (turn-gives x.settings.width x.settings i x.areas))
-carried_ten n Unread x = refl
+carried_ten n (Some (Sizes workers limit nodes viewers)) x = refl
+carried_ten n (Some (Starts i row column)) x = start-prints n _ (given-not_10 (start_gives x.settings.width x.settings false i row column x.areas))
+carried_ten n (Some (Views i row column)) x = start-prints n _ (given-not_10 (start_gives x.settings.width x.settings true i row column x.areas))
+carried_ten n (Some (Turns i)) x = turn-prints n i _ _ _ (given-not_10 (turn-gives x.settings.width x.settings i x.areas))
+carried_ten n None x = refl
 
 rest_ten : (n : ℕ) (p : List ℕ) (x : State) → ten_lines (rest_prints n p x) ≡ unread_rest n p
 unfolding ten_lines ten_line rest_prints unread_rest pick
@@ -75,18 +76,18 @@ opened_ten r ps h = go (eqb r.reply.number 0) refl
     go true e = simp e (lines_ten 2 ps (after r))
     go false e = simp (e, ne_eqb r.reply.number 10 h)
 
-sizes_not_ten : (workers limit nodes viewers : ℕ) (a : Areas) → (first_line (Sizes workers limit nodes viewers) a).reply.number ≢ 10
+sizes_not_ten : (workers limit nodes viewers : ℕ) (a : Areas) → (first_line (Some (Sizes workers limit nodes viewers)) a).reply.number ≢ 10
 unfolding first_line
 sizes_not_ten workers limit nodes viewers a =
     pick-both (λ (r : Result). r.reply.number ≢ 10) (leb nodes most_nodes) (λ e. given-not_10 (opening-gives width (fresh workers limit nodes viewers width) a)) (λ e z. omega arith)
 
-first_ten : (c : Command) (ps : List (List ℕ)) (a : Areas) → ten_lines (opened_prints (first_line c a) ps) ≡ pick (reads_first c) (pick (eqb (first_line c a).reply.number 0) (unread_from 2 ps) []) (1 ∷ [])
+first_ten : (c : Option Command) (ps : List (List ℕ)) (a : Areas) → ten_lines (opened_prints (first_line c a) ps) ≡ pick (reads_first c) (pick (eqb (first_line c a).reply.number 0) (unread_from 2 ps) []) (1 ∷ [])
 unfolding reads_first ten_lines ten_line opened_prints first_line pick
-first_ten (Sizes workers limit nodes viewers) ps a = opened_ten (first_line (Sizes workers limit nodes viewers) a) ps (sizes_not_ten workers limit nodes viewers a)
-first_ten (Starts i row column) ps a = refl
-first_ten (Views i row column) ps a = refl
-first_ten (Turns i) ps a = refl
-first_ten Unread ps a = refl
+first_ten (Some (Sizes workers limit nodes viewers)) ps a = opened_ten (first_line (Some (Sizes workers limit nodes viewers)) a) ps (sizes_not_ten workers limit nodes viewers a)
+first_ten (Some (Starts i row column)) ps a = refl
+first_ten (Some (Views i row column)) ps a = refl
+first_ten (Some (Turns i)) ps a = refl
+first_ten None ps a = refl
 
 input_ten : (ps : List (List ℕ)) (a : Areas) → ten_lines (input_prints ps a) ≡ unread_input ps a
 unfolding ten_lines ten_line input_prints unread_input pick

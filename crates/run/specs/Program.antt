@@ -1,6 +1,6 @@
 -- The text program: what each line prints and leaves, and the whole run over the bytes of its input.
 -- Relies on the text format and on the operations' definitions.
-use Rattle.std.specs.Prelude.{ℕ, suc, ◌*◌, true, false, List, [], ◌∷◌, ◌++◌, eqb, leb, length, replicate}
+use Rattle.std.specs.Prelude.{ℕ, suc, ◌*◌, true, false, List, [], ◌∷◌, ◌++◌, Option, Some, None, eqb, leb, length, replicate}
 use Rattle.words.specs.Choice.{pick}
 use Rattle.settings.specs.Sizes.{max_workers, node_words, level_words, worker_words, level_count, fresh}
 use Rattle.areas.specs.Memory.{Areas, areas}
@@ -12,7 +12,7 @@ use Rattle.text.specs.Parts.{line_end, split}
 use Rattle.text.specs.Commands.{command}
 use Rattle.printing.specs.Printing.{bytes_of}
 use Rattle.text.specs.declared.Command.{Command}
-use Rattle.text.specs.declared.Command.TheVariants.{Sizes, Starts, Views, Turns, Unread}
+use Rattle.text.specs.declared.Command.TheVariants.{Sizes, Starts, Views, Turns}
 use Rattle.printing.specs.declared.Printed.{Printed}
 use Rattle.printing.specs.declared.Printed.TheVariants.{Nothing, Header, New, Found, Full, Absent, Refused, End}
 
@@ -47,12 +47,12 @@ abbrev pub width : ℕ
 width = 3
 
 -- line n, which is not the first: a line of another shape is 10, and so is a second line s
-unfoldable pub carried : ℕ → Command → State → Line
-carried n (Sizes workers limit nodes viewers) x = line (Refused n 10) x
-carried n (Starts i row column) x = start_line n (start x.settings.width x.settings false i row column x.areas)
-carried n (Views i row column) x = start_line n (start x.settings.width x.settings true i row column x.areas)
-carried n (Turns i) x = turn_line n i (record_of x.areas i).head.pixel (turn x.settings.width x.settings i x.areas)
-carried n Unread x = line (Refused n 10) x
+unfoldable pub carried : ℕ → Option Command → State → Line
+carried n (Some (Sizes workers limit nodes viewers)) x = line (Refused n 10) x
+carried n (Some (Starts i row column)) x = start_line n (start x.settings.width x.settings false i row column x.areas)
+carried n (Some (Views i row column)) x = start_line n (start x.settings.width x.settings true i row column x.areas)
+carried n (Some (Turns i)) x = turn_line n i (record_of x.areas i).head.pixel (turn x.settings.width x.settings i x.areas)
+carried n None x = line (Refused n 10) x
 
 -- "here nodes above 128 is refusal 1"
 abbrev pub most_nodes : ℕ
@@ -60,13 +60,13 @@ most_nodes = 128
 
 -- "First line s,workers,limit,nodes (here nodes above 128 is refusal 1)"; document 02: it "may end in a fifth field" with the number of viewers. Another first line does
 -- not read
-unfoldable pub first_line : Command → Areas → Result
-first_line (Sizes workers limit nodes viewers) a =
+unfoldable pub first_line : Option Command → Areas → Result
+first_line (Some (Sizes workers limit nodes viewers)) a =
     pick (leb nodes most_nodes) (opening width (fresh workers limit nodes viewers width) a) (refused 1 (fresh workers limit nodes viewers width) a)
-first_line (Starts i row column) a = refused 10 (fresh 0 0 0 0 width) a
-first_line (Views i row column) a = refused 10 (fresh 0 0 0 0 width) a
-first_line (Turns i) a = refused 10 (fresh 0 0 0 0 width) a
-first_line Unread a = refused 10 (fresh 0 0 0 0 width) a
+first_line (Some (Starts i row column)) a = refused 10 (fresh 0 0 0 0 width) a
+first_line (Some (Views i row column)) a = refused 10 (fresh 0 0 0 0 width) a
+first_line (Some (Turns i)) a = refused 10 (fresh 0 0 0 0 width) a
+first_line None a = refused 10 (fresh 0 0 0 0 width) a
 
 -- "The last line is the flagged count, which is nodes taken, then levels taken."
 abbrev pub end_line : State → Printed

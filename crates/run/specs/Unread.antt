@@ -1,12 +1,12 @@
 -- Question 10 in exactly its own case: the lines that do not read are the lines that are refused by 10.
 -- Relies on the definition of the run, and on the text format.
-use Rattle.std.specs.Prelude.{ℕ, suc, ◌≡◌, Bool, true, false, List, [], ◌∷◌, ◌++◌, eqb, leb, length}
+use Rattle.std.specs.Prelude.{ℕ, suc, ◌≡◌, Bool, true, false, List, [], ◌∷◌, ◌++◌, Option, Some, None, eqb, leb, length}
 use Rattle.words.specs.Choice.{pick}
 use Rattle.areas.specs.Memory.{Areas}
 use Rattle.text.specs.Parts.{line_end, split}
 use Rattle.text.specs.Commands.{command}
 use Rattle.text.specs.declared.Command.{Command}
-use Rattle.text.specs.declared.Command.TheVariants.{Sizes, Starts, Views, Turns, Unread}
+use Rattle.text.specs.declared.Command.TheVariants.{Sizes, Starts, Views, Turns}
 use Rattle.printing.specs.declared.Printed.{Printed}
 use Rattle.printing.specs.declared.Printed.TheVariants.{Nothing, Header, New, Found, Full, Absent, Refused, End}
 use Rattle.run.specs.Program.{first_line, prints}
@@ -28,20 +28,20 @@ ten_lines [] = []
 ten_lines (p ∷ ps) = ten_line p ++ ten_lines ps
 
 -- "First line s,workers,limit,nodes ..": a line s reads as the first one alone
-unfoldable pub reads_first : Command → Bool
-reads_first (Sizes workers limit nodes viewers) = true
-reads_first (Starts i row column) = false
-reads_first (Views i row column) = false
-reads_first (Turns i) = false
-reads_first Unread = false
+unfoldable pub reads_first : Option Command → Bool
+reads_first (Some (Sizes workers limit nodes viewers)) = true
+reads_first (Some (Starts i row column)) = false
+reads_first (Some (Views i row column)) = false
+reads_first (Some (Turns i)) = false
+reads_first None = false
 
 -- ".. then c,worker,row,column starts and t,worker turns", "A viewer's call, program line v,worker,row,column"
-unfoldable pub reads_later : Command → Bool
-reads_later (Sizes workers limit nodes viewers) = false
-reads_later (Starts i row column) = true
-reads_later (Views i row column) = true
-reads_later (Turns i) = true
-reads_later Unread = false
+unfoldable pub reads_later : Option Command → Bool
+reads_later (Some (Sizes workers limit nodes viewers)) = false
+reads_later (Some (Starts i row column)) = true
+reads_later (Some (Views i row column)) = true
+reads_later (Some (Turns i)) = true
+reads_later None = false
 
 -- "An empty input or unended last line is a refused line": what stands behind the last byte 10, as line n
 unfoldable pub unread_rest : ℕ → List ℕ → List ℕ

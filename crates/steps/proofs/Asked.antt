@@ -1,85 +1,33 @@
 -- Question 6 in the code: the ways through a test with parts, over any cell and any test beside it, and what a yes says of numbers.
 -- Relies on words for tests with parts, on settings for bounds.
-use mathlib.Core.Path.{◌≡◌, refl, sym}
-use mathlib.Core.Bool.{Bool, true, false}
+use mathlib.Core.Path.{◌≡◌}
+use mathlib.Core.Bool.{Bool, true}
 use mathlib.Core.List.{List}
-use Prim.Native.Nat.{ℕ, ◌+◌, ◌-◌, ◌≤◌, ◌<◌}
-use lib.Dec.{leb, ltb, eqb}
-use borrow.Author.Tests.{leb-true, ltb-true, ltb-false, le-leb, lt-leb}
+use Prim.Native.Nat.{ℕ, ◌-◌, ◌≤◌}
+use lib.Dec.{leb}
+use borrow.Author.Tests.{leb-true, ltb-true}
 use native.Mathlib.Omega.{arith}
-use Rattle.words.specs.Choice.{pick, both}
-use Rattle.words.specs.Digits.{DigitWidth, depths}
+use Rattle.words.specs.Choice.{both}
+use Rattle.words.specs.Digits.{DigitWidth}
 use Rattle.words.proofs.Choice.{via, both_left, both_right}
 use Rattle.settings.specs.declared.Settings.{Settings}
-use Rattle.settings.specs.Sizes.{max_nodes, most_depth, most_levels, level_count}
+use Rattle.settings.specs.Sizes.{max_nodes, most_depth, most_levels}
 use Rattle.settings.proofs.Laws.{depths_most}
 use Rattle.settings.specs.Cut.{Sized}
-use Rattle.areas.specs.Memory.{is_node, named, depth_at, level_taken}
+use Rattle.areas.specs.Memory.{depth_at, level_taken}
 use Rattle.record.specs.declared.Head.{Head}
-use Rattle.rules.specs.Asked.{in_hand, spare, picks_in, pixel_fits, compares_ref, level_left, stands_at, stands_with, picks_with, takes_level}
-
--- two tests
-pub ask_both : {r a b c d : Bool} → r ≡ both a b → b ≡ d → a ≡ c → r ≡ both c d
-ask_both p q e = simp (p, q, e)
-
--- a test, and a word that is at most k
-pub ask_most :
-    (k : ℕ) {r a b c : Bool} {v u n : ℕ} → r ≡ both a b → b ≡ leb v n → n ≡ k → v ≡ u → a ≡ c → r ≡ both c (leb u k)
-ask_most k p q n e f = simp (p, q, n, e, f)
-
--- a word that is compared: a node's pixel word is read
-module _ (s : Settings) (word : ℕ) (nodes : List ℕ) where
-  pub compares_node : {r : Bool} {n : ℕ} → r ≡ pixel_fits s n nodes → n ≡ named word → is_node word ≡ true → r ≡ compares_ref s word nodes
-  unfolding compares_ref pick
-  compares_node a b e = simp (e, a, b)
-
-  pub compares_level : {r : Bool} {n : ℕ} → r ≡ level_taken s n → n ≡ named word → is_node word ≡ false → r ≡ compares_ref s word nodes
-  unfolding compares_ref pick
-  compares_level a b e = simp (e, a, b)
-
--- a depth lies below the last where one more is at most the last
-pub less_deep : (d k : ℕ) → ltb d k ≡ leb (d + 1) k
-less_deep d k = by (ltb d k) refl
-  where
-    by : (b : Bool) → ltb d k ≡ b → b ≡ leb (d + 1) k
-    by true e = let l : d < k = ltb-true _ _ e in sym (le-leb (d + 1) k (omega arith))
-    by false e = let l : k ≤ d = ltb-false _ _ e in sym (lt-leb (d + 1) k (omega arith))
-
--- a level is left: the next number where none is spare
-module _ (w : ℕ) (s : Settings) (h : Head) (levels : List ℕ) where
-  pub level_next :
-      {r a b : Bool} {v k n : ℕ}
-      → r ≡ both a b → b ≡ ltb s.levels_taken n → n ≡ level_count w s → eqb h.held_level 0 ≡ true
-      → a ≡ ltb v k → v ≡ depth_at w levels h.level → k ≡ depths w - 1 → r ≡ level_left w s h levels
-  unfolding level_left pick
-  level_next p q n e a v k = simp (e, p, q, n, a, v, k, less_deep (depth_at w levels h.level) (depths w - 1))
-
-  pub level-spare :
-      {r a : Bool} {v k : ℕ}
-      → r ≡ both a true → eqb h.held_level 0 ≡ false → a ≡ ltb v k → v ≡ depth_at w levels h.level → k ≡ depths w - 1 → r ≡ level_left w s h levels
-  unfolding level_left pick
-  level-spare p e a v k = simp (e, p, a, v, k, less_deep (depth_at w levels h.level) (depths w - 1))
+use Rattle.rules.specs.Asked.{in_hand, spare, picks_in, level_left, stands_at, stands_with, picks_with, takes_level}
 
 -- what a yes says of numbers
 pub level_most : (s : Settings) (g : ℕ) → level_taken s g ≡ true → Sized s → g ≤ most_levels
 unfolding level_taken
-level_most s g e z =
-    let b : g < s.levels_taken = ltb-true _ _ e in
-    let l : s.levels_taken ≤ most_levels = z.levels in
-    omega arith
+level_most s g e z = omega (arith, ltb-true _ _ e)
 
 pub node_most : (s : Settings) (n : ℕ) → leb n s.nodes_taken ≡ true → Sized s → n ≤ max_nodes
-node_most s n e z =
-    let b : n ≤ s.nodes_taken = leb-true _ _ e in
-    let t : s.nodes_taken ≤ s.nodes = z.nodes in
-    let k : s.nodes ≤ max_nodes = z.ranges.nodes.high in
-    omega arith
+node_most s n e z = omega (arith, leb-true _ _ e)
 
 pub held_most : (s : Settings) (n : ℕ) → leb n s.levels_taken ≡ true → Sized s → n ≤ most_levels
-held_most s n e z =
-    let b : n ≤ s.levels_taken = leb-true _ _ e in
-    let l : s.levels_taken ≤ most_levels = z.levels in
-    omega arith
+held_most s n e z = omega (arith, leb-true _ _ e)
 
 -- a node in hand
 module _ (s : Settings) (held : ℕ) where
@@ -89,7 +37,7 @@ module _ (s : Settings) (held : ℕ) where
 
   in_hand_less : in_hand held s.nodes_taken ≡ true → Sized s → held - 1 ≤ 4096
   unfolding in_hand
-  in_hand_less e z = let n = node_most s held (both_right (leb 1 held) _ e) z in omega arith
+  in_hand_less e z = omega (arith, node_most s held (both_right (leb 1 held) _ e) z)
 
 module _ (s : Settings) (h : Head) {r : Bool} where
   -- the level is taken: Put; Append, Close, SetClose
@@ -125,9 +73,7 @@ module _ (s : Settings) (h : Head) {r : Bool} where
 
   pub level_less : r ≡ stands_with s h h.held_level s.levels_taken → r ≡ true → Sized s → h.held_level - 1 ≤ most_levels
   unfolding stands_with in_hand
-  level_less a e z =
-      let n = held_most s h.held_level (both_right (leb 1 h.held_level) _ (both_right (stands_at s h) _ (via a e))) z in
-      omega arith
+  level_less a e z = omega (arith, held_most s h.held_level (both_right (leb 1 h.held_level) _ (both_right (stands_at s h) _ (via a e))) z)
 
   -- a level is taken: Level, SetLevel
   pub takes_held_level : (w : ℕ) (levels : List ℕ) → r ≡ takes_level w s h levels → r ≡ true → Sized s → h.held_level ≤ most_levels
@@ -139,6 +85,4 @@ module _ (s : Settings) (h : Head) {r : Bool} where
   unfolding takes_level level_left
   takes_deep w levels a e v =
       let b = both_right (spare h.held_level s.levels_taken) _ (both_right (level_taken s h.level) _ (via a e)) in
-      let d : depth_at w levels h.level + 1 ≤ depths w - 1 = leb-true _ _ (both_left _ _ b) in
-      let k = depths_most v in
-      omega arith
+      omega (arith, leb-true _ _ (both_left _ _ b), depths_most v)

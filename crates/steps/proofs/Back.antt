@@ -1,99 +1,63 @@
--- Going back by previous words: the rest of the way from here is the whole, over any width.
+-- Going back by previous words, one word at a time, over any width; and what the way says of question 6 and of the level to go on at.
 -- Relies on rules for the way.
-use mathlib.Core.Path.{◌≡◌, refl, ap, ◌∙◌}
+use mathlib.Core.Path.{◌≡◌, refl, sym, ap, ◌∙◌}
 use mathlib.Core.Bool.{Bool, true, false}
 use mathlib.Core.List.{List}
 use Prim.Native.Nat.{ℕ, zero, suc, ◌-◌, ◌≤◌, ◌<◌}
-use lib.Dec.{eqb, ltb}
 use native.Mathlib.Omega.{arith}
+use borrow.Author.Tests.{eq-eqb, ne_eqb, lt-ltb, le-ltb}
+use Rattle.std.specs.Prelude.{Some, None, is_some}
 use Rattle.words.specs.Choice.{pick, both}
 use Rattle.words.specs.Digits.{depths}
 use Rattle.areas.specs.Memory.{is_node, named, previous_at}
 use Rattle.rules.specs.Steps.{child_of, back_meets}
 use Rattle.rules.specs.Asked.{goes_back}
-use Rattle.steps.specs.declared.Way.{Way}
-use Rattle.steps.specs.Cut.{walk_cut, back_cut}
+use Rattle.steps.specs.Cut.{walk_within, back_cut}
 
--- at the beginning all of them may be read
-module _ (w : ℕ) (levels : List ℕ) (g t : ℕ) {n k : ℕ} (e : n ≡ k) where
-  pub child_begins : child_of w levels n g t ≡ child_of w levels k g t
-  child_begins = rw e refl
-
-  pub meets_begins : (taken : ℕ) → back_meets w taken levels n g t ≡ back_meets w taken levels k g t
-  meets_begins taken = rw e refl
-
--- the level whose previous is g, as x: n previous words may still be read from level a on
-module _ (w : ℕ) (levels : List ℕ) (g : ℕ) where
-  pub child_here :
-      (n a : ℕ) {x p : ℕ} → child_of w levels n g a ≡ x → eqb p g ≡ true → p ≡ previous_at w levels a → 0 < n → a ≡ x
-  unfolding child_of pick
-  child_here zero a e t d h = e
-  child_here (suc n) a e t d h = simp (← d, t) at e
-
-  pub child_further :
-      (n a : ℕ) {x p : ℕ}
-      → child_of w levels n g a ≡ x → eqb p g ≡ false → p ≡ previous_at w levels a → 0 < n → child_of w levels (n - 1) g p ≡ x
-  unfolding child_of pick
-  child_further zero a e t d h = absurd (omega arith)
-  child_further (suc n) a e t d h = let m : suc n - 1 ≡ n = omega arith in simp m (simp (← d, t) at e)
-
-  pub child_last : (n a : ℕ) {x : ℕ} → child_of w levels n g a ≡ x → n ≤ 0 → a ≡ x
-  unfolding child_of
-  child_last zero a e h = e
-  child_last (suc n) a e h = absurd (omega arith)
-
--- whether it is met, as x
+-- n previous words may still be read from level a on
 module _ (w taken : ℕ) (levels : List ℕ) (g : ℕ) where
-  pub meets_here :
-      (n a : ℕ) {p : ℕ} {x : Bool} → back_meets w taken levels n g a ≡ x → eqb p g ≡ true → p ≡ previous_at w levels a → 0 < n → true ≡ x
-  unfolding back_meets pick
-  meets_here zero a e t d h = absurd (omega arith)
-  meets_here (suc n) a e t d h = simp (← d, t) at e
+  pub walk_met : (n a : ℕ) → 0 < n → previous_at w levels a ≡ g → walk_within w taken levels n g a ≡ Some a
+  unfolding walk_within back_meets child_of pick
+  walk_met zero a h e = absurd (omega arith)
+  walk_met (suc n) a h e = simp (eq-eqb _ _ e)
 
-  pub meets_not :
-      (n a : ℕ) {p : ℕ} {x : Bool}
-      → back_meets w taken levels n g a ≡ x → ltb p taken ≡ false → eqb p g ≡ false → p ≡ previous_at w levels a → 0 < n → false ≡ x
-  unfolding back_meets pick both
-  meets_not zero a e k t d h = absurd (omega arith)
-  meets_not (suc n) a e k t d h = simp (← d, t, k) at e
+  pub walk_lost : (n a : ℕ) → 0 < n → (previous_at w levels a ≡ g → ⊥) → taken ≤ previous_at w levels a → walk_within w taken levels n g a ≡ None
+  unfolding walk_within back_meets pick both
+  walk_lost zero a h e t = absurd (omega arith)
+  walk_lost (suc n) a h e t = simp (ne_eqb _ _ e, le-ltb _ _ t)
 
-  pub meets_further :
-      (n a : ℕ) {p : ℕ} {x : Bool}
-      → back_meets w taken levels n g a ≡ x → ltb p taken ≡ true → eqb p g ≡ false → p ≡ previous_at w levels a → 0 < n
-      → back_meets w taken levels (n - 1) g p ≡ x
-  unfolding back_meets pick both
-  meets_further zero a e k t d h = absurd (omega arith)
-  meets_further (suc n) a e k t d h = let m : suc n - 1 ≡ n = omega arith in simp m (simp (← d, t, k) at e)
+  pub walk_on :
+      (n a : ℕ) → 0 < n → (previous_at w levels a ≡ g → ⊥) → previous_at w levels a < taken
+      → walk_within w taken levels n g a ≡ walk_within w taken levels (n - 1) g (previous_at w levels a)
+  unfolding walk_within back_meets child_of pick both
+  walk_on zero a h e t = absurd (omega arith)
+  walk_on (suc n) a h e t = let m : suc n - 1 ≡ n = omega arith in simp (ne_eqb _ _ e, lt-ltb _ _ t, m)
 
-  pub meets_last : (n a : ℕ) {x : Bool} → back_meets w taken levels n g a ≡ x → n ≤ 0 → false ≡ x
-  unfolding back_meets
-  meets_last zero a e h = e
-  meets_last (suc n) a e h = absurd (omega arith)
+  pub walk_none : (n a : ℕ) → n ≡ 0 → walk_within w taken levels n g a ≡ None
+  unfolding walk_within back_meets pick
+  walk_none n a e = simp e
 
 -- what is asked and done with a word that was met
-module _ (w taken level word : ℕ) (levels : List ℕ) {b : Way} where
-  pub meets_is : b ≡ back_cut w taken level word levels → b.meets ≡ goes_back w taken level word levels
-  unfolding back_cut walk_cut goes_back pick
-  meets_is p = ap (λ (x : Way). x.meets) p ∙ by (is_node word) refl
+module _ (w taken level word : ℕ) (levels : List ℕ) where
+  meets_is : is_some (back_cut w taken level word levels) ≡ goes_back w taken level word levels
+  unfolding back_cut walk_within goes_back pick
+  meets_is = by (is_node word) (back_meets w taken levels (depths w - 1) level (named word))
     where
-      by : (q : Bool) → is_node word ≡ q → (back_cut w taken level word levels).meets ≡ goes_back w taken level word levels
-      by true e = simp e
-      by false e = simp e
+      by : (q r : Bool) → is_some (pick q (Some 0) (pick r (Some (child_of w levels (depths w - 1) level (named word))) None)) ≡ pick q true r
+      by true r = refl
+      by false true = refl
+      by false false = refl
 
-  pub child_is : b ≡ back_cut w taken level word levels → is_node word ≡ false → b.child ≡ child_of w levels (depths w - 1) level (named word)
-  unfolding back_cut walk_cut pick
-  child_is p e = simp (p, e)
+  pub meets_some : {c : ℕ} → Some c ≡ back_cut w taken level word levels → goes_back w taken level word levels ≡ true
+  meets_some e = sym meets_is ∙ sym (ap is_some e)
 
--- the ways through the code
-module _ (w taken level : ℕ) (levels : List ℕ) where
-  pub walk_way : (t : ℕ) {q : Bool} {c : ℕ} → q ≡ back_meets w taken levels (depths w - 1) level t → c ≡ child_of w levels (depths w - 1) level t → record { meets = q; child = c } ≡ walk_cut w taken level t levels
-  unfolding walk_cut
-  walk_way t p q = simp (p, q)
+  pub meets_none : None ≡ back_cut w taken level word levels → goes_back w taken level word levels ≡ false
+  meets_none e = sym meets_is ∙ sym (ap is_some e)
 
-  pub back_node : (word : ℕ) → is_node word ≡ true → record { meets = true; child = 0 } ≡ back_cut w taken level word levels
-  unfolding back_cut pick
-  back_node word e = simp e
-
-  pub back_level : (word : ℕ) {b : Way} {t : ℕ} → b ≡ walk_cut w taken level t levels → t ≡ named word → is_node word ≡ false → b ≡ back_cut w taken level word levels
-  unfolding back_cut pick
-  back_level word p q e = simp (e, p, q)
+  pub child_is : {c : ℕ} → Some c ≡ back_cut w taken level word levels → is_node word ≡ false → c ≡ child_of w levels (depths w - 1) level (named word)
+  unfolding back_cut walk_within pick
+  child_is {c} e f = by (back_meets w taken levels (depths w - 1) level (named word)) (simp f at e)
+    where
+      by : (r : Bool) → Some c ≡ pick r (Some (child_of w levels (depths w - 1) level (named word))) None → c ≡ child_of w levels (depths w - 1) level (named word)
+      by true e = cc
+      by false e = cc

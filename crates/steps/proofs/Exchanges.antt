@@ -15,16 +15,6 @@ use Rattle.rules.specs.Steps.{Step, expected, exchanging}
 use Rattle.rules.specs.Asked.{exchanges}
 use Rattle.steps.specs.Tried.{Tried, tried, unless_six, exchange_tried}
 
--- the word that an exchange met: the one expected, and it is done; another, and it failed
-module _ {ℓ} {A : Type ℓ} (h : Head) (word : ℕ) (done failed : A) {u : A} where
-  pub met-here : u ≡ done → eqb word (level_ref h.level) ≡ true → u ≡ pick (expected h word) done failed
-  unfolding expected pick
-  met-here p e = simp (e, p)
-
-  pub met_other : u ≡ failed → eqb word (level_ref h.level) ≡ false → u ≡ pick (expected h word) done failed
-  unfolding expected pick
-  met_other p e = simp (e, p)
-
 -- what is asked before the exchange, room for what begins where it is done, the cell, what it is exchanged to, the two ways, and what is asked of the word
 module _ (w : ℕ) (s : Settings) (h : Head) (ms : List Move) (m : Memory) (before room : Bool) (y : Cell) (b : ℕ) (done : Memory → Step) (failed : ℕ → Memory → Step) (asks : ℕ → Memory → Bool) where
   abbrev asked : Tried
@@ -47,7 +37,3 @@ module _ (w : ℕ) (s : Settings) (h : Head) (ms : List Move) (m : Memory) (befo
   exchange-tried {x} {c} u e x-is c-is p r =
       let z : exchange w m x (level_ref h.level) c ≡ exchange w m y (level_ref h.level) b = rw (x-is, c-is) refl in
       u ∙ ap made (e ∙ z) ∙ made-asked (eqb (cell_at w m y) (level_ref h.level)) refl p r
-
--- the word that is expected
-pub exchange_way : (w : ℕ) (m : Memory) (x : Cell) (u b : ℕ) {e : Exchanged} {a : ℕ} → e ≡ exchange w m x a b → a ≡ u → e ≡ exchange w m x u b
-exchange_way w m x u b p q = simp (p, q)

@@ -1,22 +1,19 @@
--- The code's cut of Level is the step that the definitions say, over any width, and a Move that has begun is one Move more.
+-- The code's cut of Level is the step that the definitions say, over any width.
 -- Relies on words for the choice by a test, on rules for the steps.
 use mathlib.Core.Path.{◌≡◌, refl}
 use mathlib.Core.Bool.{Bool, true, false}
-use mathlib.Core.List.{List, ◌∷◌}
-use Prim.Native.Nat.{ℕ, ◌+◌, ◌-◌, ◌≤◌}
+use mathlib.Core.List.{List}
+use Prim.Native.Nat.{ℕ, ◌+◌}
 use lib.Dec.{eqb}
-use borrow.Author.Tests.{ne_eqb}
-use native.Mathlib.Omega.{arith}
 use Rattle.words.specs.Choice.{pick}
 use Rattle.settings.specs.declared.Settings.{Settings}
 use Rattle.areas.specs.Memory.{Memory, memory}
 use Rattle.record.specs.declared.Kind.{Kind}
 use Rattle.record.specs.declared.Head.{Head}
 use Rattle.record.specs.declared.Move.{Move}
-use Rattle.record.specs.Layout.{new_move}
 use Rattle.rules.specs.Heads.{holding_level}
 use Rattle.rules.specs.Steps.{going, with_level, take_level}
-use Rattle.steps.specs.Cut.{level_no, level_counted, take_level_cut, begun}
+use Rattle.steps.specs.Cut.{level_no, level_counted, take_level_cut}
 
 -- two choices by one test are one choice
 pub pick_alongside {ℓ κ ι} :
@@ -24,11 +21,6 @@ pub pick_alongside {ℓ κ ι} :
 unfolding pick
 pick_alongside f true x y u v = refl
 pick_alongside f false x y u v = refl
-
-module _ (g : ℕ) (ms : List Move) where
-  pub begun_one : {c : ℕ} → 1 ≤ c → begun g c ms ≡ new_move g (c - 1) ∷ ms
-  unfolding begun pick
-  begun_one {c} h = simp (ne_eqb c 0 (λ e. omega arith))
 
 module _ (w : ℕ) (s : Settings) (h : Head) (ms : List Move) (m : Memory) where
   -- Level, SetLevel

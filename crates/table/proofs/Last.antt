@@ -22,47 +22,17 @@ use Rattle.record.specs.Fits.{fits}
 use Rattle.rules.specs.Asked.{question4, question6_record}
 use Rattle.rules.specs.Operations.{result_of, reply, unless_refused, last_questions, last_of, last_answer}
 use Rattle.table.specs.Cut.{first_four}
-use Rattle.table.proofs.Questions.{after-four}
-
--- the answer that a record holds, by its head
-module _ (h : Head) where
-  pub answer_idle : {a : Answer} → a ≡ answer_of h.answer h.answer_node → eqb (kind_no h.kind) 0 ≡ true → a ≡ last_of h
-  unfolding last_of pick
-  answer_idle a t = simp (t, a)
-
-  pub answer_open : eqb (kind_no h.kind) 0 ≡ false → Open ≡ last_of h
-  unfolding last_of pick
-  answer_open t = simp t
+use Rattle.table.proofs.Questions.{after_four}
 
 module _ (w : ℕ) (s : Settings) (i : ℕ) (n g k : List ℕ) where
   -- the first no of a last answer's questions
-  pub last-number :
+  pub last_number :
       let f = first_four w s i (length n) (length g) (length k) in
       first_no (last_questions w s i (areas n g k)) ≡ pick (eqb f 0) (pick (fits w (views s i) s (load k i)) 0 6) f
   unfolding last_questions first_four first_three question6_record first_no
-  last-number =
-      after-four (question1 s) (question2 w s (length n) (length g) (length k)) (question3 w s) (question4 s i)
+  last_number =
+      after_four (question1 s) (question2 w s (length n) (length g) (length k)) (question3 w s) (question4 s i)
       (asks 6 (fits w (views s i) s (load k i)) ∷ [])
-
-  -- the ways through a last answer's questions
-  pub last_fits :
-      {f : ℕ} {v : Bool}
-      → fits w v s (load k i) ≡ true → v ≡ views s i → f ≡ first_four w s i (length n) (length g) (length k) → f ≡ 0
-      → 0 ≡ first_no (last_questions w s i (areas n g k))
-  unfolding pick
-  last_fits t v b e = simp (last-number, ← b, e, ← v, t)
-
-  pub last_unfit :
-      {f : ℕ} {v : Bool}
-      → fits w v s (load k i) ≡ false → v ≡ views s i → f ≡ first_four w s i (length n) (length g) (length k) → f ≡ 0
-      → 6 ≡ first_no (last_questions w s i (areas n g k))
-  unfolding pick
-  last_unfit t v b e = simp (last-number, ← b, e, ← v, t)
-
-  pub last-four :
-      {f : ℕ} → f ≡ first_four w s i (length n) (length g) (length k) → (f ≡ 0 → ⊥) → f ≡ first_no (last_questions w s i (areas n g k))
-  unfolding pick
-  last-four b e = simp (last-number, ← b, ne_eqb _ _ e)
 
   -- the ways through a last answer
   pub last_done :
@@ -72,9 +42,9 @@ module _ (w : ℕ) (s : Settings) (i : ℕ) (n g k : List ℕ) where
   unfolding last_answer unless_refused load pick
   last_done a b c d e = simp (← d, e, a, b, c)
 
-  pub last-refused :
+  pub last_refused :
       {r : Reply} {q : ℕ}
       → r ≡ reply q Nothing 0 s → q ≡ first_no (last_questions w s i (areas n g k)) → (q ≡ 0 → ⊥)
       → result_of r (areas n g k) ≡ last_answer w s i (areas n g k)
   unfolding last_answer unless_refused pick
-  last-refused a d e = simp (← d, ne_eqb _ _ e, a)
+  last_refused a d e = simp (← d, ne_eqb _ _ e, a)

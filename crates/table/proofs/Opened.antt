@@ -21,9 +21,9 @@ use Rattle.rules.specs.Operations.{result_of, reply, unless_refused, opening_que
 
 module _ (w : ℕ) (s : Settings) (n g k : List ℕ) where
   -- the first no of an opening's questions
-  pub opening-number : first_no (opening_questions w s (areas n g k)) ≡ opening_two w s (length n) (length g) (length k)
+  pub opening_number : first_no (opening_questions w s (areas n g k)) ≡ opening_two w s (length n) (length g) (length k)
   unfolding opening_questions opening_two
-  opening-number = refl
+  opening_number = refl
 
   pub open_done :
       {r : Reply} {t : Settings} {g' k' : List ℕ} {m q : ℕ}
@@ -31,14 +31,14 @@ module _ (w : ℕ) (s : Settings) (n g k : List ℕ) where
       → g' ≡ fill_level w g 0 none 0 → q ≡ opening_two w s (length n) (length g) (length k) → q ≡ 0
       → result_of r (areas n g' k') ≡ opening w s (areas n g k)
   unfolding opening unless_refused opened_settings opened_areas pick
-  open_done a b c d e f z = simp (opening-number, ← f, z, a, b, c, d, e)
+  open_done a b c d e f z = simp (opening_number, ← f, z, a, b, c, d, e)
 
   pub open_refused :
       {r : Reply} {q : ℕ}
       → r ≡ reply q Nothing 0 s → q ≡ opening_two w s (length n) (length g) (length k) → (q ≡ 0 → ⊥)
       → result_of r (areas n g k) ≡ opening w s (areas n g k)
   unfolding opening unless_refused pick
-  open_refused a f z = simp (opening-number, ← f, ne_eqb _ _ z, a)
+  open_refused a f z = simp (opening_number, ← f, ne_eqb _ _ z, a)
 
 -- an opening that is carried out has one of the widths
 pub open_wide : (w : ℕ) (s : Settings) (n g k : ℕ) {q : ℕ} → q ≡ opening_two w s n g k → q ≡ 0 → DigitWidth s.width

@@ -26,18 +26,6 @@ both_zero f x e = go (eqb f 0) refl
 
 -- the ways through questions 1 to 4
 module _ (w : ℕ) (s : Settings) (i n g k : ℕ) where
-  pub four-none : {q : ℕ} → q ≡ first_three w s n g k → q ≡ 0 → ltb i s.workers ≡ true → 0 ≡ first_four w s i n g k
-  unfolding first_four question4 pick
-  four-none a e t = simp (← a, e, t)
-
-  pub four_worker : {q : ℕ} → q ≡ first_three w s n g k → q ≡ 0 → ltb i s.workers ≡ false → 4 ≡ first_four w s i n g k
-  unfolding first_four question4 pick
-  four_worker a e t = simp (← a, e, t)
-
-  pub four-asked : {q : ℕ} → q ≡ first_three w s n g k → (q ≡ 0 → ⊥) → q ≡ first_four w s i n g k
-  unfolding first_four pick
-  four-asked a e = simp (← a, ne_eqb _ _ e)
-
   -- a yes to all four: the width is one of the four, the chain limit is in range
   pub four_wide : {q : ℕ} → q ≡ first_four w s i n g k → q ≡ 0 → DigitWidth s.width
   unfolding first_four
@@ -52,14 +40,14 @@ module _ (w : ℕ) (s : Settings) (i n g k : ℕ) where
       (ranges s (three_yes w s n g k z.0).0).limit.high
 
 -- the first no of questions that follow the first four
-pub after-four :
+pub after_four :
     (a b c d : Bool) (l : List Question)
     → let t = first_no (asks 1 a ∷ asks 2 b ∷ asks 3 c ∷ []) in
     let f = pick (eqb t 0) (pick d 0 4) t in
     first_no (asks 1 a ∷ asks 2 b ∷ asks 3 c ∷ asks 4 d ∷ l) ≡ pick (eqb f 0) (first_no l) f
 unfolding first_no pick
-after-four false b c d l = refl
-after-four true false c d l = refl
-after-four true true false d l = refl
-after-four true true true false l = refl
-after-four true true true true l = refl
+after_four false b c d l = refl
+after_four true false c d l = refl
+after_four true true false d l = refl
+after_four true true true false l = refl
+after_four true true true true l = refl

@@ -6,6 +6,7 @@
 ghost use Rattle.std.specs.Prelude.{◌≡◌, ◌+◌, ◌*◌, ◌≤◌, eqb, length};
 ghost use Rattle.words.specs.Choice.{pick, first_no};
 ghost use Rattle.words.specs.Digits.{DigitWidth, pixel_number};
+ghost use Rattle.settings.specs.Refusals.{refusal_no, outcome_no};
 ghost use Rattle.settings.specs.Sizes.{max_limit, worker_words, views};
 ghost use Rattle.areas.specs.Memory.{areas};
 ghost use Rattle.record.specs.Kinds.{kind_no};
@@ -17,25 +18,30 @@ ghost use Rattle.rules.specs.Operations.{result_of, reply, opening, start_questi
 ghost use Rattle.table.specs.Cut.{first_four, after_five, begun, start_reply};
 
 use areas::{NONE, fill_level};
-use record::{Answer, Head, Kind, Reply, answer_at, answer_of, fits, idle_at, idle_fits, kind_no};
-use settings::Settings;
-use words::{and, eq, fill_words, le};
+use record::{Answer, Head, Kind, Reply, answer_at, answer_of, fits, idle_at, idle_fits};
+use settings::{Refusal, Settings};
+use words::fill_words;
 
-pub fn replied(number: u32, a: Answer, s: Settings) -> Reply
-    ensures { result ≡ reply number a 0 s }
+// What an operation that is carried out gives back.
+pub fn replied(answer: Answer, settings: Settings) -> Reply
+    ensures { result ≡ reply 0 answer 0 settings }
 {
     Reply {
-        number: number,
-        answer: a,
+        number: 0,
+        answer,
         turns: 0,
-        settings: s,
+        settings,
     }
 }
 
-pub fn refusal(number: u32, s: Settings) -> Reply
-    ensures { result ≡ reply number Answer.Nothing 0 s }
+// "A refusal gives its number, the settings as they came, and unchanged memory."
+pub fn refusal(r: Refusal, settings: Settings) -> Reply
+    ensures { result ≡ reply (refusal_no r) Answer.Nothing 0 settings }
 {
-    replied(number, Answer::Nothing, s)
+    Reply {
+        number: r.into(),
+        ..replied(Answer::Nothing, settings)
+    }
 }
 
 // Word j of worker i. Word 0 of the worker past the last one is the end of the workers' words.
@@ -46,53 +52,50 @@ fn word_place(i: u32, j: u32) -> usize
 }
 
 // Opening: writes level 0 and zeroes the workers' words.
+#[tactic(auto, using(crate::proofs::Opened::open_wide, crate::proofs::Opened::open_refused, settings::proofs::Refusals::refusal_positive))]
 pub fn open(s: Settings, nodes: &[u32], levels: &mut [u32], workers: &mut [u32]) -> Reply
     ensures { result_of result (areas nodes.now levels.new workers.new) ≡ opening s.width s (areas nodes.now levels.old workers.old) }
 {
-    let q = s.refused_opening(nodes.len(), levels.len(), workers.len());
-    if q == 0 {
-        fill_level(s.width, levels, 0, NONE, 0);
-        fill_words(workers, 0, word_place(s.workers, 0), 0);
-        refusal(
-            0,
-            Settings::fresh(s.workers, s.limit, s.nodes, s.viewers, s.width),
-        )
-    } else {
-        refusal(q, s)
+    if let Err(r) = s.check_opening(nodes.len(), levels.len(), workers.len()) {
+        return refusal(r, s);
     }
+    fill_level(s.width, levels, 0, NONE, 0);
+    fill_words(workers, 0, word_place(s.workers, 0), 0);
+    replied(
+        Answer::Nothing,
+        Settings::fresh(s.workers, s.limit, s.nodes, s.viewers, s.width),
+    )
 }
 
 // Row and column are at most 4,095.
+#[tactic(auto, unfolding(rules::specs::Asked::question5, words::specs::Choice::both))]
 fn in_frame(row: u32, column: u32) -> bool
     ensures { result ≡ question5 row column }
 {
-    and(le(row, Settings::MAX_SIDE), le(column, Settings::MAX_SIDE))
+    row <= Settings::MAX_SIDE && column <= Settings::MAX_SIDE
 }
 
+#[tactic(auto, using(record::proofs::Numbers::tag_no))]
 pub fn is_idle(h: Head) -> bool
     ensures { result ≡ eqb (kind_no h.kind) 0 }
 {
-    let k = h.kind;
-    eq(kind_no(k), 0)
+    h.kind == Kind::Idle
 }
 
 // The head of a call that starts.
+#[tactic(auto, unfolding(rules::specs::Heads::started))]
 fn started(pixel: u32, h: Head) -> Head
     ensures { result ≡ started pixel h }
 {
     Head {
         kind: Kind::Look,
-        pixel: pixel,
+        pixel,
         level: 0,
-        node: h.node,
-        count: h.count,
-        held_node: h.held_node,
-        held_level: h.held_level,
-        answer: h.answer,
-        answer_node: h.answer_node,
+        ..h
     }
 }
 
+#[tactic(auto, unfolding(words::specs::Digits::pixel_number))]
 fn pixel_number(row: u32, column: u32) -> u32
     requires row_bound { row ≤ 4095 }
     requires column_bound { column ≤ 4095 }
@@ -102,42 +105,35 @@ fn pixel_number(row: u32, column: u32) -> u32
 }
 
 // Questions 1 to 4, which start, turn and last answer ask of a worker.
-pub fn refused_worker(s: Settings, i: u32, nodes: &[u32], levels: &[u32], workers: &[u32]) -> u32
-    ensures { result ≡ first_four s.width s i (length nodes.now) (length levels.now) (length workers.now) }
+#[tactic(auto, using(settings::proofs::Refusals::refusal_positive), unfolding(crate::specs::Cut::first_four, rules::specs::Asked::question4, words::specs::Choice::pick))]
+pub fn check_worker(
+    s: Settings,
+    i: u32,
+    nodes: &[u32],
+    levels: &[u32],
+    workers: &[u32],
+) -> Result<(), Refusal>
+    ensures { outcome_no result ≡ first_four s.width s i (length nodes.now) (length levels.now) (length workers.now) }
 {
-    let q = s.refused(nodes.len(), levels.len(), workers.len());
-    if q == 0 {
-        if i < s.workers { 0 } else { 4 }
+    s.check(nodes.len(), levels.len(), workers.len())?;
+    if i < s.workers {
+        Ok(())
     } else {
-        q
+        Err(Refusal::Worker)
     }
 }
 
 // Question 17: a looking call is a viewer's, a placing call another worker's.
+#[tactic(auto, unfolding(rules::specs::Asked::question17, words::specs::Choice::pick))]
 fn sort_fits(s: Settings, looks: bool, i: u32) -> bool
     ensures { result ≡ question17 s looks i }
 {
-    let v = s.views(i);
-    if looks {
-        v
-    } else {
-        if v { false } else { true }
-    }
-}
-
-// The number of the first no, given the answers to questions 17, 6 and 7.
-fn after_five(right: bool, fit: bool, idle: bool) -> u32
-    ensures { result ≡ pick right (pick fit (pick idle 0 7) 6) 17 }
-{
-    if right {
-        if fit { if idle { 0 } else { 7 } } else { 6 }
-    } else {
-        17
-    }
+    s.views(i) == looks
 }
 
 // The record of worker i fits its layout. Of an idle worker, as most that start are, two words tell. A last answer asks `fits` itself: with that function called from
 // one place alone, the compiler would call this one for every start.
+#[tactic(auto, using(record::proofs::Tests::idle_is), unfolding(record::specs::Layout::load))]
 fn record_fits(s: Settings, i: u32, workers: &[u32]) -> bool
     requires digit_width { DigitWidth s.width }
     requires limit_le_max_limit { s.limit ≤ max_limit }
@@ -152,20 +148,27 @@ fn record_fits(s: Settings, i: u32, workers: &[u32]) -> bool
 }
 
 // Questions 17, 6 and 7, which a start asks of worker i and its record.
-fn refused_record(s: Settings, looks: bool, i: u32, workers: &[u32]) -> u32
+#[tactic(auto, unfolding(crate::specs::Cut::after_five, rules::specs::Asked::question7, record::specs::Layout::load, words::specs::Choice::pick))]
+fn check_record(s: Settings, looks: bool, i: u32, workers: &[u32]) -> Result<(), Refusal>
     requires digit_width { DigitWidth s.width }
     requires limit_le_max_limit { s.limit ≤ max_limit }
-    ensures { result ≡ after_five s.width s looks i (load workers.now i) }
+    ensures { outcome_no result ≡ after_five s.width s looks i (load workers.now i) }
 {
-    after_five(
-        sort_fits(s, looks, i),
-        record_fits(s, i, workers),
-        idle_at(workers, i),
-    )
+    if !sort_fits(s, looks, i) {
+        return Err(Refusal::Sort);
+    }
+    if !record_fits(s, i, workers) {
+        return Err(Refusal::Memory);
+    }
+    if !idle_at(workers, i) {
+        return Err(Refusal::Busy);
+    }
+    Ok(())
 }
 
 // The questions of a start: 1 to 5, 17, 6 and 7.
-fn refused_start(
+#[tactic(auto, using(crate::proofs::Starting::start_number, crate::proofs::Questions::four_wide, crate::proofs::Questions::four_limit, settings::proofs::Refusals::refusal_positive), unfolding(words::specs::Choice::pick))]
+fn check_start(
     s: Settings,
     looks: bool,
     i: u32,
@@ -174,23 +177,19 @@ fn refused_start(
     nodes: &[u32],
     levels: &[u32],
     workers: &[u32],
-) -> u32
-    ensures { result ≡ first_no (start_questions s.width s looks i row column (areas nodes.now levels.now workers.now)) }
+) -> Result<(), Refusal>
+    ensures { outcome_no result ≡ first_no (start_questions s.width s looks i row column (areas nodes.now levels.now workers.now)) }
 {
-    let four = refused_worker(s, i, nodes, levels, workers);
     let frame = in_frame(row, column);
-    if four == 0 {
-        if frame {
-            refused_record(s, looks, i, workers)
-        } else {
-            5
-        }
-    } else {
-        four
+    check_worker(s, i, nodes, levels, workers)?;
+    if !frame {
+        return Err(Refusal::Pixel);
     }
+    check_record(s, looks, i, workers)
 }
 
 // The record of a call that starts is written.
+#[tactic(auto, unfolding(crate::specs::Cut::begun))]
 fn begin_call(i: u32, row: u32, column: u32, workers: &mut [u32])
     requires row_bound { row ≤ 4095 }
     requires column_bound { column ≤ 4095 }
@@ -200,7 +199,8 @@ fn begin_call(i: u32, row: u32, column: u32, workers: &mut [u32])
     started(pixel_number(row, column), h).store(0, workers, i);
 }
 
-// A start, told by its number alone.
+// A start, told by its outcome alone.
+#[tactic(auto, using(crate::proofs::Starting::start_row, crate::proofs::Starting::start_column, crate::proofs::Starting::start_done, crate::proofs::Starting::start_refused, settings::proofs::Refusals::refusal_positive))]
 pub fn begin(
     s: Settings,
     looks: bool,
@@ -210,16 +210,12 @@ pub fn begin(
     nodes: &[u32],
     levels: &[u32],
     workers: &mut [u32],
-) -> u32
+) -> Result<(), Refusal>
     ensures { result_of (start_reply result s) (areas nodes.now levels.now workers.new) ≡ start s.width s looks i row column (areas nodes.now levels.now workers.old) }
 {
-    let q = refused_start(s, looks, i, row, column, nodes, levels, workers);
-    if q == 0 {
-        begin_call(i, row, column, workers);
-        0
-    } else {
-        q
-    }
+    check_start(s, looks, i, row, column, nodes, levels, workers)?;
+    begin_call(i, row, column, workers);
+    Ok(())
 }
 
 // Start of a call of worker i for the pixel at row and column: it places the pixel, or looks for it.
@@ -235,47 +231,51 @@ pub fn start(
 ) -> Reply
     ensures { result_of result (areas nodes.now levels.now workers.new) ≡ start s.width s looks i row column (areas nodes.now levels.now workers.old) }
 {
-    let q = begin(s, looks, i, row, column, nodes, levels, workers);
-    if q == 0 {
-        replied(0, Answer::Open, s)
-    } else {
-        refusal(q, s)
+    match begin(s, looks, i, row, column, nodes, levels, workers) {
+        Ok(()) => replied(Answer::Open, s),
+        Err(r) => refusal(r, s),
     }
 }
 
 // The answer that a record holds.
+#[tactic(auto, unfolding(rules::specs::Operations::last_of, words::specs::Choice::pick))]
 pub fn answer_in(h: Head) -> Answer
     ensures { result ≡ last_of h }
 {
-    let a = answer_of(h.answer, h.answer_node);
-    if is_idle(h) { a } else { Answer::Open }
+    if is_idle(h) {
+        answer_of(h.answer, h.answer_node)
+    } else {
+        Answer::Open
+    }
 }
 
 // Questions 1 to 4 and 6, which a last answer asks.
-fn refused_last(s: Settings, i: u32, nodes: &[u32], levels: &[u32], workers: &[u32]) -> u32
-    ensures { result ≡ first_no (last_questions s.width s i (areas nodes.now levels.now workers.now)) }
+#[tactic(auto, using(crate::proofs::Last::last_number, crate::proofs::Questions::four_wide, crate::proofs::Questions::four_limit, settings::proofs::Refusals::refusal_positive), unfolding(words::specs::Choice::pick))]
+fn check_last(
+    s: Settings,
+    i: u32,
+    nodes: &[u32],
+    levels: &[u32],
+    workers: &[u32],
+) -> Result<(), Refusal>
+    ensures { outcome_no result ≡ first_no (last_questions s.width s i (areas nodes.now levels.now workers.now)) }
 {
-    let q = refused_worker(s, i, nodes, levels, workers);
-    if q == 0 {
-        let h = Head::load(workers, i);
-        if fits(s.views(i), s, h, workers, i) {
-            0
-        } else {
-            6
-        }
+    check_worker(s, i, nodes, levels, workers)?;
+    let h = Head::load(workers, i);
+    if fits(s.views(i), s, h, workers, i) {
+        Ok(())
     } else {
-        q
+        Err(Refusal::Memory)
     }
 }
 
 // The last answer of worker i.
+#[tactic(auto, using(crate::proofs::Last::last_done, crate::proofs::Last::last_refused, settings::proofs::Refusals::refusal_positive))]
 pub fn last_answer(s: Settings, i: u32, nodes: &[u32], levels: &[u32], workers: &[u32]) -> Reply
     ensures { result_of result (areas nodes.now levels.now workers.now) ≡ last_answer s.width s i (areas nodes.now levels.now workers.now) }
 {
-    let q = refused_last(s, i, nodes, levels, workers);
-    if q == 0 {
-        replied(0, answer_in(Head::load(workers, i)), s)
-    } else {
-        refusal(q, s)
+    match check_last(s, i, nodes, levels, workers) {
+        Ok(()) => replied(answer_in(Head::load(workers, i)), s),
+        Err(r) => refusal(r, s),
     }
 }

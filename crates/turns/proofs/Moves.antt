@@ -32,16 +32,17 @@ use Rattle.rules.specs.Steps.{Step}
 use Rattle.rules.specs.Exchanges.{exchange_of}
 use Rattle.steps.specs.Tried.{Tried, tried, unless_six, unless_nine}
 use Rattle.mover.specs.declared.Mover.{Mover}
-use Rattle.mover.specs.declared.Moved.{Moved}
+use Rattle.std.specs.Prelude.{Err}
+use Rattle.settings.specs.declared.Refusal.{Refusal}
+use Rattle.settings.specs.Refusals.{refusal_no}
 use Rattle.mover.specs.Cut.{is_moving}
 use Rattle.mover.specs.Words.{inner_at, mover_at, Keeps, mover_to}
-use Rattle.mover.specs.Moved.{Gives, list_after, moved}
+use Rattle.mover.specs.Moved.{Gave, gave, Gives, list_after, moved}
 use Rattle.mover.proofs.Stored.{loaded_moves, loaded_around, store_is}
-use Rattle.turns.specs.declared.Done.{Done}
-use Rattle.turns.specs.Cut.{tried_of, finished, turn_done, did, did_of, came_to}
+use Rattle.turns.specs.Cut.{Outcome, tried_of, finished, turn_done, did, did_of, came_to}
 use Rattle.turns.proofs.HeadKept.{kind_keeps}
 use Rattle.turns.proofs.Exchanged.{tried_came, count-after}
-use Rattle.turns.proofs.Finish.{finish_six, finish_done, tried-memory}
+use Rattle.turns.proofs.Finish.{refused_six, finish_six, finish_done, tried-memory}
 
 -- a choice that is true, where the other branch is false
 pick_yes : (b x : Bool) → pick b x false ≡ true → (b ≡ true) × (x ≡ true)
@@ -148,7 +149,7 @@ abbrev around : ℕ → List ℕ → ℕ → List Move
 around w l i = first_moves l i (moves_at l i - 1)
 
 -- what the turn of a loaded mover gives is what the definitions say
-module _ (w : ℕ) (s : Settings) (i : ℕ) (l : List ℕ) (m m' : Memory) (r : Moved) where
+module _ (w : ℕ) (s : Settings) (i : ℕ) (l : List ℕ) (m m' : Memory) (r : Gave) where
   abbrev Turned : Mover → Type 0
   Turned v = Gives v s m r m' (λ a os. both (is_moving v.head.kind) (reads_by v.head.kind w s v.head (a ∷ os) m)) (λ a os. act_by v.head.kind w false s v.head (a ∷ os) m)
 
@@ -186,17 +187,17 @@ module _ (w : ℕ) (s : Settings) (i : ℕ) (l : List ℕ) (m m' : Memory) (r : 
       subst Zero (asked_is f low) (pick-both Zero (both (is_moving (head_at l i).kind) (reads_by (head_at l i).kind w s (head_at l i) all m)) (λ e n. refl) (λ e n. absurd (n refl)))
 
 module _ (w : ℕ) (s : Settings) (i : ℕ) (h : Head) (nodes levels l : List ℕ) where
-  abbrev pub Given : Mover → Moved → Memory → Type 0
+  abbrev pub Given : Mover → Gave → Memory → Type 0
   Given v r m' =
       Gives v s (memory nodes levels) r m'
       (λ a os. both (is_moving v.head.kind) (reads_by v.head.kind w s v.head (a ∷ os) (memory nodes levels)))
       (λ a os. act_by v.head.kind w false s v.head (a ∷ os) (memory nodes levels))
 
-  given_is : (r : Moved) (m' : Memory) (v : Mover) → Given v r m' → v ≡ mover_at l i h → h ≡ head_at l i → Given (mover_at l i (head_at l i)) r m'
+  given_is : (r : Gave) (m' : Memory) (v : Mover) → Given v r m' → v ≡ mover_at l i h → h ≡ head_at l i → Given (mover_at l i (head_at l i)) r m'
   given_is r m' v g a e = rw (← e, ← a) g
 
   pub move_refused :
-      (v : Mover) (r : Moved) {d : Done} {n g : List ℕ} → d ≡ turn_done 6 s None → Given v r (memory n g) → v ≡ mover_at l i h → r.number ≡ 6 → h ≡ head_at l i → Sized s → fits w false s (load l i) ≡ true → 11 ≤ kind_no h.kind
+      (v : Mover) (r : Gave) {d : Outcome} {n g : List ℕ} → d ≡ turn_done 6 s None → Given v r (memory n g) → v ≡ mover_at l i h → r.number ≡ 6 → h ≡ head_at l i → Sized s → fits w false s (load l i) ≡ true → 11 ≤ kind_no h.kind
       → did d (areas n g l) ≡ did_of (exchange_of w (load l i) (memory nodes levels)) (finished (tried_of w false s (load l i) (memory nodes levels)) i s (areas nodes levels l))
   move_refused v r {d} {n} {g} a gives b z e y f k =
       let p : 11 ≤ kind_no (head_at l i).kind = rw e at k in
@@ -208,14 +209,14 @@ module _ (w : ℕ) (s : Settings) (i : ℕ) (h : Head) (nodes levels l : List �
   most_of f p y = inner_most w s l i f p y
 
   -- what is stored is within the record, and as if all of it were stored
-  kept_is : (r : Moved) {m' : Memory} → Given (mover_at l i (head_at l i)) r m' → moved (mover_at l i (head_at l i)) r (innermost w l i) (around w l i) m' ≡ tried_of w false s (load l i) (memory nodes levels) → Sized s → fits w false s (load l i) ≡ true → 11 ≤ kind_no (head_at l i).kind
+  kept_is : (r : Gave) {m' : Memory} → Given (mover_at l i (head_at l i)) r m' → moved (mover_at l i (head_at l i)) r (innermost w l i) (around w l i) m' ≡ tried_of w false s (load l i) (memory nodes levels) → Sized s → fits w false s (load l i) ≡ true → 11 ≤ kind_no (head_at l i).kind
       → mover_to r.mover i l ≡ store (record' r.mover.head (list_after (mover_at l i (head_at l i)) r.mover (innermost w l i) (around w l i))) i l
   kept_is r {m'} given q y f p =
       let k : Keeps r.mover.head (head_at l i) = subst (λ (t : Tried). Keeps t.step'.record'.head (head_at l i)) (sym q) (tried_keeps w s i l (memory nodes levels) m' r f p) in
       store_is w l i r.mover k (given.most (most_of f p y)) (moves_least w s l i f p) given.counts
 
   -- what its exchange came to
-  move_came : (r : Moved) {m' : Memory} → moved (mover_at l i (head_at l i)) r (innermost w l i) (around w l i) m' ≡ tried_of w false s (load l i) (memory nodes levels) → (r.number ≡ 6 → ⊥) → fits w false s (load l i) ≡ true → 11 ≤ kind_no (head_at l i).kind
+  move_came : (r : Gave) {m' : Memory} → moved (mover_at l i (head_at l i)) r (innermost w l i) (around w l i) m' ≡ tried_of w false s (load l i) (memory nodes levels) → (r.number ≡ 6 → ⊥) → fits w false s (load l i) ≡ true → 11 ≤ kind_no (head_at l i).kind
       → came_to (kind_no (head_at l i).kind) r.mover.head (mover_at l i (head_at l i)).inner.count r.mover.inner.count
       ≡ pick (eqb (tried_of w false s (load l i) (memory nodes levels)).number 0) (exchange_of w (load l i) (memory nodes levels)) None
   unfolding load mover_at inner_at move_at move_from inner outer
@@ -232,7 +233,7 @@ module _ (w : ℕ) (s : Settings) (i : ℕ) (h : Head) (nodes levels l : List �
       (λ u. z (ap (λ (t : Tried). t.number) q ∙ u))
 
   pub move_done :
-      (v : Mover) (r : Moved) {d : Done} {x : Exchange} {n g l' : List ℕ} → d ≡ turn_done 0 r.settings x → x ≡ came_to (kind_no h.kind) r.mover.head v.inner.count r.mover.inner.count → l' ≡ mover_to r.mover i l → Given v r (memory n g) → v ≡ mover_at l i h → (r.number ≡ 6 → ⊥) → h ≡ head_at l i → Sized s → fits w false s (load l i) ≡ true → 11 ≤ kind_no h.kind
+      (v : Mover) (r : Gave) {d : Outcome} {x : Exchange} {n g l' : List ℕ} → d ≡ turn_done 0 r.settings x → x ≡ came_to (kind_no h.kind) r.mover.head v.inner.count r.mover.inner.count → l' ≡ mover_to r.mover i l → Given v r (memory n g) → v ≡ mover_at l i h → (r.number ≡ 6 → ⊥) → h ≡ head_at l i → Sized s → fits w false s (load l i) ≡ true → 11 ≤ kind_no h.kind
       → did d (areas n g l') ≡ did_of (exchange_of w (load l i) (memory nodes levels)) (finished (tried_of w false s (load l i) (memory nodes levels)) i s (areas nodes levels l))
   move_done v r {d} {x} {n} {g} {l'} a o c gives b z e y f k =
       let p : 11 ≤ kind_no (head_at l i).kind = rw e at k in
@@ -241,3 +242,14 @@ module _ (w : ℕ) (s : Settings) (i : ℕ) (h : Head) (nodes levels l : List �
       let number_is : r.number ≡ (tried_of w false s (load l i) (memory nodes levels)).number = ap (λ (t : Tried). t.number) q in
       let zero : r.number ≡ 0 = number_is ∙ tried-zero w s i l (memory nodes levels) (memory n g) r f p (λ u. z (number_is ∙ u)) in
       finish_done w i s nodes levels l (tried_of w false s (load l i) (memory nodes levels)) _ (moved (mover_at l i (head_at l i)) r (innermost w l i) (around w l i) (memory n g)).step' (a ∙ ap (λ k. turn_done k r.settings x) (sym zero)) (o ∙ rw (b, e) (move_came r q z f p)) (c ∙ kept_is r given q y f p) q z
+
+  -- refused by 6, as a moving turn has no other number but 0
+  pub move_err :
+      (v : Mover) (q : Refusal) {n g : List ℕ} → Given v (gave v s (Err q)) (memory n g) → v ≡ mover_at l i h → h ≡ head_at l i → Sized s → fits w false s (load l i) ≡ true → 11 ≤ kind_no h.kind
+      → did (turn_done (refusal_no q) s None) (areas n g l) ≡ did_of (exchange_of w (load l i) (memory nodes levels)) (finished (tried_of w false s (load l i) (memory nodes levels)) i s (areas nodes levels l))
+  move_err v q {n} {g} gives b e y f k =
+      let p : 11 ≤ kind_no (head_at l i).kind = rw e at k in
+      let r = gave v s (Err q) in
+      let t = loaded_is w s i l (memory nodes levels) (memory n g) r y f p (given_is r (memory n g) v gives b e) in
+      let six : refusal_no q ≡ 6 = refused_six w false s (load l i) (memory nodes levels) (memory n g) v.head (list_after (mover_at l i (head_at l i)) v (innermost w l i) (around w l i)) q t in
+      move_refused v r (ap (λ (u : ℕ). turn_done u s None) six) gives b six e y f k

@@ -31,8 +31,7 @@ use Rattle.rules.specs.Exchanges.{exchange_of}
 use Rattle.rules.specs.Lists.{state}
 use Rattle.table.specs.Cut.{first_four}
 use Rattle.table.proofs.Questions.{both_zero}
-use Rattle.turns.specs.declared.Done.{Done}
-use Rattle.turns.specs.Cut.{tried_of, finished, turn_as, turn_here, turn_done, Did, did, did_of, did_as}
+use Rattle.turns.specs.Cut.{Outcome, tried_of, finished, turn_as, turn_here, turn_done, Did, did, did_of, did_as}
 use Rattle.turns.proofs.Finish.{did-six}
 use Rattle.turns.proofs.Views.{viewing_low, viewing_high}
 use Rattle.turns.proofs.OneCut.{turn_cut}
@@ -55,9 +54,9 @@ no_moves w v s l i e low high =
 -- a turn of a viewer (v) or of another worker
 module _ (w : ℕ) (v : Bool) (s : Settings) (i : ℕ) (n g l : List ℕ) where
   -- a record that does not fit
-  pub here-six : {d : Done} {b : Bool} → d ≡ turn_done 6 s None → b ≡ fits w v s (load l i) → b ≡ false → did d (areas n g l) ≡ did_as w v s i (areas n g l)
+  pub here_six : {d : Outcome} {b : Bool} → d ≡ turn_done 6 s None → b ≡ fits w v s (load l i) → b ≡ false → did d (areas n g l) ≡ did_as w v s i (areas n g l)
   unfolding turn_as
-  here-six a q z = rw (a, pick_false _ _ (refused 6 s (areas n g l)) (sym q ∙ z)) (sym (did-six s _ (areas n g l)))
+  here_six a q z = rw (a, pick_false _ _ (refused 6 s (areas n g l)) (sym q ∙ z)) (sym (did-six s _ (areas n g l)))
 
   -- what is handed on of a turn of the record r
   abbrev did_from : Record → Did
@@ -89,17 +88,17 @@ module _ (w : ℕ) (s : Settings) (i : ℕ) (n g l : List ℕ) where
   unfolding role_fits viewing pick
   view_fits {h = h} q e y = fits_role w true s l i q refl y (λ z. let u : viewing (kind_no h.kind) ≡ viewing 0 = ap viewing z in true_false (sym y ∙ u)) refl e
 
-  pub view_six : {d : Done} {b : Bool} {h : Head} → d ≡ turn_done 6 s None → b ≡ fits w false s (load l i) → b ≡ false → h ≡ head_at l i → viewing (kind_no h.kind) ≡ true → did d (areas n g l) ≡ did_as w true s i (areas n g l)
-  view_six a q z e y = here-six w true s i n g l a (view_fits q e y) z
+  pub view_six : {d : Outcome} {b : Bool} {h : Head} → d ≡ turn_done 6 s None → b ≡ fits w false s (load l i) → b ≡ false → h ≡ head_at l i → viewing (kind_no h.kind) ≡ true → did d (areas n g l) ≡ did_as w true s i (areas n g l)
+  view_six a q z e y = here_six w true s i n g l a (view_fits q e y) z
 
   pub view_open : {x : Did} {b : Bool} {h : Head} → x ≡ did_from w true s i n g l (record' h []) → b ≡ fits w false s (load l i) → b ≡ true → h ≡ head_at l i → viewing (kind_no h.kind) ≡ true → x ≡ did_as w true s i (areas n g l)
   view_open {h = h} a q z e y = here_search w true s i n g l a (view_fits q e y) z e (viewing_low _ y) (viewing_high _ y)
 
-  pub view_none : {d : Done} {b : Bool} {k : ℕ} {h : Head} → d ≡ turn_done 6 s None → b ≡ viewing k → b ≡ false → k ≡ kind_no h.kind → h ≡ head_at l i → 1 ≤ kind_no (head_at l i).kind → did d (areas n g l) ≡ did_as w true s i (areas n g l)
+  pub view_none : {d : Outcome} {b : Bool} {k : ℕ} {h : Head} → d ≡ turn_done 6 s None → b ≡ viewing k → b ≡ false → k ≡ kind_no h.kind → h ≡ head_at l i → 1 ≤ kind_no (head_at l i).kind → did d (areas n g l) ≡ did_as w true s i (areas n g l)
   unfolding role_fits pick
   view_none {k = k} {h} a q z e f low =
       let y : 1 ≤ kind_no h.kind = rw f low in
-      here-six w true s i n g l a (fits_no_role w true s l i q z (λ o. omega arith) e f) refl
+      here_six w true s i n g l a (fits_no_role w true s l i q z (λ o. omega arith) e f) refl
 
 module _ (w : ℕ) (s : Settings) (i : ℕ) (n g l : List ℕ) where
   -- an idle worker, by two words of it
@@ -110,7 +109,7 @@ module _ (w : ℕ) (s : Settings) (i : ℕ) (n g l : List ℕ) where
       rw f (ap (λ (x : Result). pick (fits w (views s i) s (load l i)) x (refused 6 s (areas n g l))) (pick_true _ _ _ (sym q ∙ z)))
 
   -- a worker whose words are there
-  pub did_outside : (d : Done) {b : Bool} → b ≡ leb (worker_words * i + worker_words) (length l) → b ≡ false → worker_words * i + worker_words ≤ length l → did d (areas n g l) ≡ did_as w false s i (areas n g l)
+  pub did_outside : (d : Outcome) {b : Bool} → b ≡ leb (worker_words * i + worker_words) (length l) → b ≡ false → worker_words * i + worker_words ≤ length l → did d (areas n g l) ≡ did_as w false s i (areas n g l)
   did_outside d q z h = let y : length l < worker_words * i + worker_words = leb-false _ _ (sym q ∙ z) in absurd (omega arith)
 
   pub here-turn : {q : ℕ} → q ≡ first_four w s i (length n) (length g) (length l) → q ≡ 0 → turn_here w s i (areas n g l) ≡ turn w s i (areas n g l)

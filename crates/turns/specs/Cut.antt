@@ -1,9 +1,12 @@
 -- The parts in which the code carries out one turn. They follow the code's cut and are tied to the operation's definition by lemmas.
 -- Relies on rules for the operations, on steps for what a method gives.
 use Rattle.settings.specs.Sizes.{views}
-use Rattle.std.specs.Prelude.{Bool, ℕ, eqb, ltb}
+use Rattle.std.specs.Prelude.{Bool, ℕ, eqb, ltb, Ok, Err}
+use Rattle.std.specs.Prelude as Res
 use Rattle.words.specs.Choice.{pick}
 use Rattle.settings.specs.declared.Settings.{Settings}
+use Rattle.settings.specs.declared.Refusal.{Refusal}
+use Rattle.settings.specs.Refusals.{refusal_no}
 use Rattle.areas.specs.Memory.{Areas, areas, Memory}
 use Rattle.record.specs.declared.Exchange.{Exchange}
 use Rattle.record.specs.declared.Exchange.TheVariants.{None, Done, Failed}
@@ -41,15 +44,35 @@ turn_as w v s i a =
 abbrev pub turn_here : ℕ → Settings → ℕ → Areas → Result
 turn_here w s i a = turn_as w (views s i) s i a
 
--- what is handed on of a turn, with the areas
-unfoldable pub turn_done : ℕ → Settings → Exchange → done.Done
+-- what is handed on of a turn that is done
+abbrev pub left_by : Settings → Exchange → done.Done
+left_by s e = record { nodes_taken = s.nodes_taken; levels_taken = s.levels_taken; exchange = e }
+
+-- what a turn comes to: its number, of the settings what it can change, and its exchange
+pub record Outcome : Type 0 where
+  pub number : ℕ
+  pub nodes_taken : ℕ
+  pub levels_taken : ℕ
+  pub exchange : Exchange
+
+abbrev pub turn_done : ℕ → Settings → Exchange → Outcome
 turn_done n s e = record { number = n; nodes_taken = s.nodes_taken; levels_taken = s.levels_taken; exchange = e }
 
+-- a turn begun with these counts: a refusal leaves them, and makes no exchange
+abbrev pub done_at : ℕ → ℕ → Res.Result done.Done Refusal → Outcome
+done_at n g (Ok d) = record { number = 0; nodes_taken = d.nodes_taken; levels_taken = d.levels_taken; exchange = d.exchange }
+done_at n g (Err r) = record { number = refusal_no r; nodes_taken = n; levels_taken = g; exchange = None }
+
+-- with these settings
+abbrev pub done_of : Settings → Res.Result done.Done Refusal → Outcome
+done_of s = done_at s.nodes_taken s.levels_taken
+
+-- with the areas
 pub record Did : Type 0 where
-  pub done : done.Done
+  pub done : Outcome
   pub areas : Areas
 
-abbrev pub did : done.Done → Areas → Did
+abbrev pub did : Outcome → Areas → Did
 did d a = record { done = d; areas = a }
 
 -- of a turn whose exchange comes to e: a turn that is refused makes none

@@ -68,3 +68,8 @@ last-width two a b c = absurd (b refl)
 last-width three a b c = absurd (a refl)
 last-width four a b c = absurd (c refl)
 last-width six a b c = refl
+
+-- the digit of a width that is none of the other three
+pub last-digit : {w v : ℕ} (p d : ℕ) → DigitWidth w → (w ≡ 3 → ⊥) → (w ≡ 2 → ⊥) → (w ≡ 4 → ⊥) → v ≡ in_row sixes d → p / v % 64 ≡ digit w p d
+unfolding base depths both
+last-digit p d width a b c e = divisor_digit 6 sixes d e refl refl p ∙ ap (λ (w : ℕ). digit w p d) (sym (last-width width a b c))

@@ -1,30 +1,17 @@
--- Questions 6 and 9 of a search in the code: the ways through a test with parts, and what a yes says of numbers.
+-- Question 6 of Take and TakeTail in the code: what a yes says of numbers.
 -- Relies on words for tests with parts, on steps for bounds.
 use mathlib.Core.Path.{◌≡◌}
-use mathlib.Core.Bool.{Bool, true, false}
+use mathlib.Core.Bool.{Bool, true}
 use Prim.Native.Nat.{◌≤◌}
-use lib.Dec.{ltb, eqb}
-use Rattle.words.specs.Choice.{pick}
 use Rattle.words.proofs.Choice.{via, both_left, both_right}
 use Rattle.settings.specs.declared.Settings.{Settings}
 use Rattle.settings.specs.Sizes.{max_nodes, most_levels}
 use Rattle.settings.specs.Cut.{Sized}
 use Rattle.areas.specs.Memory.{level_taken}
 use Rattle.record.specs.declared.Head.{Head}
-use Rattle.rules.specs.Asked.{spare, node_left, takes}
+use Rattle.rules.specs.Asked.{spare, takes}
 use Rattle.steps.proofs.Asked.{level_most, node_most}
 
-module _ (s : Settings) (h : Head) where
-  -- a node is left where none is spare
-  pub left_next : {r : Bool} → r ≡ ltb s.nodes_taken s.nodes → eqb h.held_node 0 ≡ true → r ≡ node_left s h
-  unfolding node_left pick
-  left_next a e = simp (e, a)
-
-  pub left-spare : eqb h.held_node 0 ≡ false → true ≡ node_left s h
-  unfolding node_left pick
-  left-spare e = simp e
-
--- what a yes says of numbers: Take, TakeTail
 module _ (s : Settings) (h : Head) {r : Bool} where
   pub takes_level_lem : r ≡ takes s h → r ≡ true → Sized s → h.level ≤ most_levels
   unfolding takes

@@ -2,5 +2,4 @@
 -- Relies on nothing.
 pub mod Asked
 pub mod Cells
-pub mod Steps
 pub mod Turns

@@ -1,17 +1,25 @@
 -- `export::leafdrum_turns` meets its contract.
 -- Relies on lists for each way in which a list ends.
+use mathlib.Core.Path.{refl}
+use Rattle.settings.proofs.Refusals.{refusal_positive}
+use Rattle.lists.specs.Cut.{ended}
 use Rattle.lists.proofs.Ways.{asked_three, asked_below, list_refused}
 use Rattle.export.proofs.Exported.{list_steps, apart_below, apart_done, none_done}
+use borrow.Author.Rules.{rules}
 use Rattle.export.proofs.leafdrum_turns.Goals as goal
 
-pub returns-else-q-eq0 : goal.returns-else-q-eq0
-returns-else-q-eq0 c = list_steps c.ended_refused.ensures (list_refused _ _ _ _ _ _ _ c.refused_list-q.ensures c.if-q-eq0.false)
+pub returns-in-Err : goal.returns-in-Err
+returns-in-Err c = list_steps c.ended_refused.ensures (list_refused _ _ _ _ _ _ _ c.in-Err.ensures (refusal_positive c.in-Err.r))
 
-pub returns-then-list-eq0 : goal.returns-then-list-eq0
-returns-then-list-eq0 c = list_steps c.ended_refused-then-list-eq0.ensures (none_done _ _ _ _ _ _ c.refused_list-q.ensures c.if-q-eq0.true c.if-list-eq0.true)
+pub returns-in_default-list : goal.returns-in_default-list
+returns-in_default-list c = search (rules, none_done)
 
-pub run_list-t-requires : goal.run_list-t-requires
-run_list-t-requires c = record { workers_value = asked_three _ _ _ _ _ _ c.refused_list-q.ensures c.if-q-eq0.true; rest_value = apart_below _ c.wide-first.ensures c.if-list-eq0.false _ (asked_below _ _ _ _ _ _ c.refused_list-q.ensures c.if-q-eq0.true) }
+pub run_list-ran-requires-clause-workers_value : goal.run_list-ran-requires-clause-workers_value
+run_list-ran-requires-clause-workers_value c = asked_three _ _ _ _ _ _ c.in_default.ensures refl
+
+pub run_list-ran-requires-clause-rest_value : goal.run_list-ran-requires-clause-rest_value
+run_list-ran-requires-clause-rest_value c = apart_below _ c.from-first.ensures c.in-len1-up.len_at_least _ (asked_below _ _ _ _ _ _ c.in_default.ensures refl)
 
 pub returns : goal.returns
-returns c = list_steps c.ended_list.ensures (apart_done _ c.wide-first.ensures c.if-list-eq0.false _ _ _ _ _ c.run_list-t.result c.refused_list-q.ensures c.if-q-eq0.true c.run_list-t.ensures c.with_counts.ensures)
+returns c =
+    list_steps c.ended_list.ensures (apart_done _ c.from-first.ensures c.in-len1-up.len_at_least _ _ _ _ _ (ended c.run_list-ran.result) c.in_default.ensures refl c.run_list-ran.ensures c.with_counts.ensures)

@@ -2,14 +2,8 @@
 -- Relies on the ways through a stage.
 use borrow.Author.Rules.{rules}
 use Rattle.run.specs.Remaining.{goes_on}
-use Rattle.run.proofs.Stages.{too_long, stands_first, stands_lines, next_goes, next_done}
+use Rattle.run.proofs.Stages.{too_long, next_goes, next_done}
 use Rattle.run.proofs.advance.Goals as goal
-
-pub next_first-requires : goal.next_first-requires
-next_first-requires c = search (rules, stands_first)
-
-pub next_lines-requires : goal.next_lines-requires
-next_lines-requires c = search (rules, stands_lines)
 
 pub returns-in-Begin : goal.returns-in-Begin
 unfolding goes_on

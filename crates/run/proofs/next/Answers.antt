@@ -5,8 +5,5 @@ use Rattle.run.proofs.Stages.{next_nowhere}
 use borrow.Author.Rules.{rules}
 use Rattle.run.proofs.next.Goals as goal
 
-pub advance-requires : goal.advance-requires
-advance-requires c = search (rules, via)
-
 pub returns-else-can_stand : goal.returns-else-can_stand
 returns-else-can_stand c = search (rules, via, next_nowhere)

@@ -1,8 +1,8 @@
 -- `steps::walk` meets its contract.
--- Relies on the laws named below.
-use Rattle.steps.proofs.Back.{walk_way}
-use borrow.Author.Rules.{rules}
+-- Relies on Back for the way's end.
+use Rattle.std.proofs.Common.{arith}
+use Rattle.steps.proofs.Back.{walk_none}
 use Rattle.steps.proofs.walk.Goals as goal
 
 pub returns : goal.returns
-returns c = search (rules, walk_way)
+returns c = grind (arith, walk_none)

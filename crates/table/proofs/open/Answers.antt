@@ -1,14 +1,8 @@
 -- `table::open` meets its contract.
--- Relies on Opened.
-use Rattle.table.proofs.Opened.{open_wide, worker_words_lem, open_done, open_refused}
-use Rattle.words.proofs.Auto.{tests}
+-- Relies on Opened for an opening that is carried out.
+use mathlib.Core.Path.{refl}
+use Rattle.table.proofs.Opened.{worker_words_lem, open_done}
 use Rattle.table.proofs.open.Goals as goal
 
-pub fill_level-requires : goal.fill_level-requires
-fill_level-requires c = search (tests, open_wide)
-
-pub returns-then-q-eq0 : goal.returns-then-q-eq0
-returns-then-q-eq0 c = search (tests, worker_words_lem, open_done)
-
-pub returns-else-q-eq0 : goal.returns-else-q-eq0
-returns-else-q-eq0 c = search (tests, open_refused)
+pub returns : goal.returns
+returns c = open_done _ _ _ _ _ c.replied.ensures c.fresh.ensures c.fill_words.ensures (worker_words_lem c.args.s c.word_place.ensures) c.fill_level.ensures c.in_default.ensures refl

@@ -1,14 +1,12 @@
 -- `text::all_digits` meets its contract.
--- Relies on the ways through the loop.
-use borrow.Author.Rules.{rules}
-use Rattle.text.proofs.Ways.{every_more, every-not, every-end}
+-- Relies on the ways: the library's word for it.
+use Rattle.std.proofs.Common.{rules, ◌∙◌, tests}
+use Rattle.std.proofs.lemmas.Iterator.{YieldsList-from_slice}
+use Rattle.std.proofs.lemmas.Iterator.Search.{all_from_yields_List}
+use Rattle.std.specs.Char.{is_ascii_digit}
+use Rattle.text.proofs.Ways.{digits_every}
 use Rattle.text.proofs.all_digits.Goals as goal
 
-pub loop-k-preserved : goal.loop-k-preserved
-loop-k-preserved c = search (rules, every_more)
-
-pub returns-else-is_digit : goal.returns-else-is_digit
-returns-else-is_digit c = search (rules, every-not)
-
 pub returns : goal.returns
-returns c = search (rules, every-end)
+returns c =
+    all_from_yields_List is_ascii_digit _ _ _ c.all.ensures.ran (YieldsList-from_slice c.args.s.now cc) (λ x b q k. search (rules, tests)) ∙ digits_every _

@@ -10,30 +10,6 @@ use Rattle.turns.proofs.Exchanged.{is_none, none_is, came_kind}
 use borrow.Author.Rules.{rules}
 use Rattle.turns.proofs.came_to.Goals as goal
 
-pub returns-in-Put : goal.returns-in-Put
-unfolding came_to kind_no pick
-returns-in-Put c = search (rules, came_kind)
-
-pub returns-in-Append : goal.returns-in-Append
-unfolding came_to kind_no pick
-returns-in-Append c = search (rules, came_kind)
-
-pub returns-in-Close : goal.returns-in-Close
-unfolding came_to kind_no pick
-returns-in-Close c = search (rules, came_kind)
-
-pub returns-in-SetPut : goal.returns-in-SetPut
-unfolding came_to kind_no pick
-returns-in-SetPut c = search (rules, came_kind)
-
-pub returns-in-SetAppend : goal.returns-in-SetAppend
-unfolding came_to kind_no pick
-returns-in-SetAppend c = search (rules, came_kind)
-
-pub returns-in-SetClose : goal.returns-in-SetClose
-unfolding came_to kind_no pick
-returns-in-SetClose c = search (rules, came_kind)
-
 pub returns-in_default : goal.returns-in_default
 unfolding kind_of kinds pick came_to every both
 returns-in_default c =

@@ -1,11 +1,7 @@
 -- `turns::keep_search` meets its contract.
--- Relies on the ways in which a turn ends.
-use Rattle.turns.proofs.Finish.{keep_none, keep_begun}
-use borrow.Author.Rules.{rules}
+-- Relies on Finish for a Move that has begun.
+use Rattle.turns.proofs.Finish.{keep_begun}
 use Rattle.turns.proofs.keep_search.Goals as goal
 
-pub returns-then-c-eq0 : goal.returns-then-c-eq0
-returns-then-c-eq0 c = search (rules, keep_none, keep_begun)
-
-pub returns-else-c-eq0 : goal.returns-else-c-eq0
-returns-else-c-eq0 c = search (rules, keep_none, keep_begun)
+pub returns-in-Some : goal.returns-in-Some
+returns-in-Some c = rw c.in-Some.is (keep_begun _ _ _ _ c.store-in-Some-2.ensures c.fresh.ensures c.store-in-Some.ensures)

@@ -1,8 +1,0 @@
--- `mover::Mover::chain_heads` meets its contract.
--- Relies on steps.
-use Rattle.steps.proofs.Asked.{ask_both}
-use borrow.Author.Rules.{rules}
-use Rattle.mover.proofs.Mover.chain_heads.Goals as goal
-
-pub returns : goal.returns
-returns c = search (rules, ask_both)
