@@ -243,7 +243,7 @@ def write(path, text):
 
 
 def defined():
-    """The declarations that the Rattle source asks for, and README for the names of refusals, each as C without blanks."""
+    """The declarations that the Rattle source asks for, each as C without blanks."""
     c_name = {"Settings": "leafdrum_settings", "LeafdrumReply": "leafdrum_reply", "Listing": "leafdrum_listing", "LeafdrumGiven": "leafdrum_given",
               "Count": "leafdrum_count", "&mut Listing": "leafdrum_listing*", "u32": "uint32_t", "Nothing": "NONE"}
     lengths = {"list": "count", "nodes": "node_words", "levels": "level_words", "workers": "worker_words"}
@@ -272,9 +272,13 @@ def defined():
     given_name = {"Err(r)": "REFUSED", "Ok(Some(pixel))": "PIXEL", "Ok(None)": "END"}
     given = re.findall(r"((?:Ok|Err)\(\S+\)) => Self \{[^}]*?answer: (\d),", source)
     found.append("enum{%s};" % ",".join("LEAFDRUM_GIVEN_%s=%s" % (given_name[case], n) for case, n in given))
-    # the names of the refusals are README's, their numbers those of the enum in settings
-    refusals = re.findall(r"^\| (\d+) \| `(LEAFDRUM_REFUSED_\w+)` \|", read("README.md"), re.M)
-    found.append("enum{%s};" % ",".join("%s=%s" % (name, n) for n, name in sorted(refusals, key=lambda r: int(r[0]))))
+    # each refusal of the source but the text program's own, and README's table has the same
+    enum = re.search(r"pub enum Refusal \{(.*?)\n\}", read("crates/settings/src/lib.rt"), re.S).group(1)
+    refusals = [("LEAFDRUM_REFUSED_" + name.upper(), n) for name, n in re.findall(r"(\w+) = (\d+),", enum) if name != "Line"]
+    listed = re.findall(r"^\| (\d+) \| `(LEAFDRUM_REFUSED_\w+)` \|", read("README.md"), re.M)
+    if sorted(refusals) != sorted((name, n) for n, name in listed):
+        sys.exit("headers: README's table has other refusals than the enum of crates/settings")
+    found.append("enum{%s};" % ",".join("%s=%s" % refusal for refusal in refusals))
     return sorted(found)
 
 

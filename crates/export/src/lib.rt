@@ -103,7 +103,7 @@ fn ended_list(s: Settings, r: Ran, limit: u32) -> LeafdrumReply
     LeafdrumReply {
         exchanges_done: r.tally.done,
         exchanges_failed: r.tally.failed,
-        ..lists::ended_list(s, r, limit).into()
+        ..lists::ended_list(s, r.number(), r.tally, limit).into()
     }
 }
 

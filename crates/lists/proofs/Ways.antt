@@ -1,6 +1,6 @@
 -- One law for each way through the functions of a list of turns, and through what refuses a turn: its premises are what the callees give and the tests.
 -- Relies on the code's cut, on what ties it to the definition, and on that questions 1 to 3 stay answered yes.
-use Prim.Native.Nat.{ℕ, ◌+◌, ◌*◌, ◌-◌, ◌≤◌, ◌<◌}
+use Prim.Native.Nat.{ℕ, zero, suc, ◌+◌, ◌*◌, ◌-◌, ◌≤◌, ◌<◌}
 use mathlib.Core.Path.{◌≡◌, refl, sym, ap, subst, ◌∙◌}
 use mathlib.Core.Logic.{◌≢◌}
 use mathlib.Core.Bool.{Bool, true, false, not}
@@ -9,7 +9,7 @@ use native.Mathlib.Nat.{add-zero}
 use native.Mathlib.Decide.{ℕ_discrete}
 use native.Mathlib.Omega.{arith}
 use lib.Dec.{eqb, ltb}
-use lib.ListN.{length}
+use lib.ListN.{length, get_or}
 use borrow.Author.Tests.{eq-eqb, ne_eqb, eqb-true, eqb-false, lt-ltb, ltb-true}
 use Rattle.words.specs.Choice.{pick, both, every, asks, first_no}
 use Rattle.words.proofs.Choice.{true_false, pick-both, pick_true, pick_false, both_left, both_right}
@@ -44,8 +44,8 @@ use Rattle.rules.proofs.Entries.{eight-idle}
 use Rattle.table.specs.Cut.{first_four}
 use Rattle.table.proofs.Questions.{both_zero}
 use Rattle.turns.specs.declared.Done.{Done}
-use Rattle.std.specs.Prelude.{Err, ◌&&◌}
-use Rattle.std.specs.List.{list_all}
+use Rattle.std.specs.Prelude.{Err}
+use Rattle.std.specs.List.{fold}
 use Rattle.std.specs.Prelude as Res
 use Rattle.turns.specs.Cut.{Outcome, done_at, done_of, turn_here, turn_done, Did, did, did_of, did_as}
 use Rattle.turns.proofs.Ways as below
@@ -278,11 +278,23 @@ list_left w l s t a e y = sym (stopped w l (ran_of s t a) y) ∙ e
 pub list_six : (w : ℕ) (l : List ℕ) (s : Settings) (t : Stand) (a : Areas) {x : Run} → ran_list w l (ran_of s t a) ≡ x → (t.number ≡ 0 → ⊥) → ran_of s t a ≡ x
 list_six w l s t a e g = sym (refused_on w l (ran_of s t a) g) ∙ e
 
--- the library's test at each element
-pub all_every : (n : ℕ) (l : List ℕ) → list_all (λ i. ltb i n) l ≡ every (λ i. ltb i n) l
+-- a test that goes on at each element, begun with b
+pub fold_every : (n : ℕ) (b : Bool) (l : List ℕ) → fold (λ b i. both b (ltb i n)) b l ≡ both b (every (λ i. ltb i n) l)
 unfolding every both
-all_every n [] = refl
-all_every n (x ∷ l) = elim (ltb x n) as (λ b. (b && list_all (λ i. ltb i n) l) ≡ both b (every (λ i. ltb i n) l)) [ true ↦ all_every n l | false ↦ refl ]
+fold_every n true [] = refl
+fold_every n false [] = refl
+fold_every n true (x ∷ l) = fold_every n (ltb x n) l
+fold_every n false (x ∷ l) = fold_every n false l
+
+-- an entry of a list whose entries are below the number of workers
+pub entry_below : (l : List ℕ) (k : ℕ) {n v : ℕ} → every (λ i. ltb i n) l ≡ true → v ≡ get_or l k 0 → k < length l → v < n
+unfolding every
+entry_below [] k e a h = absurd (omega arith)
+entry_below (x ∷ l) zero {n} {v} e a h =
+    let q : x < n = ltb-true x n (both_left _ _ e) in
+    let d : v ≡ x = a in
+    omega arith
+entry_below (x ∷ l) (suc k) e a h = entry_below l k (both_right _ _ e) a (omega arith)
 
 -- questions 1 to 3, then 4
 by_three : (a b c d : Bool) → let t = first_no (asks 1 a ∷ asks 2 b ∷ asks 3 c ∷ []) in first_no (asks 1 a ∷ asks 2 b ∷ asks 3 c ∷ asks 4 d ∷ []) ≡ pick (eqb t 0) (pick d 0 4) t

@@ -39,6 +39,18 @@ pub struct Ran {
     pub outcome: Result<(), Refusal>,
 }
 
+impl Ran {
+    // The number of the refusal that has ended the list, or 0.
+    pub fn number(self) -> u32
+        ensures { result ≡ (ended self).number }
+    {
+        match self.outcome {
+            Ok(()) => 0,
+            Err(r) => r.into(),
+        }
+    }
+}
+
 // The tally after an entry, or the 6 that ends the list there and leaves the tally.
 type Outcome = Result<Tally, Refusal>;
 
@@ -155,11 +167,11 @@ fn entry(
     }
 }
 
-// Every entry of a list is below n: question 4 of a list of turns.
+// Every entry of a list is below n: question 4 of a list of turns. A fold without early exit, and not `all`, so that the compiler asks several entries at once.
 fn all_below(list: &[u8], n: u32) -> bool
     ensures { result ≡ every (λ i. ltb i n) list.now }
 {
-    list.iter().all(|i| (*i as u32) < n)
+    list.iter().fold(true, |ok, i| ok & (u32::from(*i) < n))
 }
 
 // A list that no 6 has ended.
@@ -236,16 +248,14 @@ pub fn check_list(
 }
 
 // What a list of turns gives at its end, with its settings then: the turns done are those that the limit has been counted down by.
-pub fn ended_list(s: Settings, r: Ran, limit: u32) -> Reply
-    ensures { result ≡ reply (ended r).number Answer.Nothing (limit - r.tally.left) s }
+pub fn ended_list(s: Settings, number: u32, t: Tally, limit: u32) -> Reply
+    ensures { result ≡ reply number Answer.Nothing (limit - t.left) s }
 {
-    let reply = match r.outcome {
-        Ok(()) => replied(Answer::Nothing, s),
-        Err(q) => refusal(q, s),
-    };
     Reply {
-        turns: limit.saturating_sub(r.tally.left),
-        ..reply
+        number,
+        answer: Answer::Nothing,
+        turns: limit.saturating_sub(t.left),
+        settings: s,
     }
 }
 

@@ -105,6 +105,14 @@ impl Kind {
     {
         self <= Self::Follow
     }
+
+    // The kinds of a viewer's call.
+    #[tactic(auto, unfolding(crate::specs::Kinds::kind_no, crate::specs::Fits::viewing, words::specs::Choice::pick))]
+    pub fn viewing(self) -> bool
+        ensures { result ≡ viewing (kind_no self) }
+    {
+        viewing(self.into())
+    }
 }
 
 impl From<Kind> for u32 {
@@ -355,12 +363,12 @@ fn moving_fits(s: Settings, k: Kind, words: &[u32], i: u32, n: u32) -> bool
     n <= last_depth(s.width) && moves_fit(s, k, words, i, n)
 }
 
-// The kinds of a viewer's call.
-#[tactic(auto, unfolding(crate::specs::Kinds::kind_no, crate::specs::Fits::viewing, words::specs::Choice::pick))]
-pub fn viewing(k: Kind) -> bool
-    ensures { result ≡ viewing (kind_no k) }
+// The kinds of a viewer's call, by number: any may be asked, also one that is no kind's.
+#[tactic(auto, unfolding(crate::specs::Fits::viewing, words::specs::Choice::pick))]
+pub fn viewing(k: u32) -> bool
+    ensures { result ≡ viewing k }
 {
-    matches!(k, Kind::Look | Kind::Read | Kind::Tail | Kind::Follow)
+    matches!(k, 1 | 4 | 5 | 10)
 }
 
 // An open call's kind is one of a viewer's, if v says that the worker is a viewer.
@@ -368,7 +376,7 @@ pub fn viewing(k: Kind) -> bool
 fn role_fits(v: bool, k: Kind) -> bool
     ensures { result ≡ role_fits v (kind_no k) }
 {
-    !v || viewing(k)
+    !v || k.viewing()
 }
 
 // The record of worker i with the head h of a search fits its layout. Of a viewer this is asked at one of a viewer's kinds alone.

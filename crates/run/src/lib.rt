@@ -18,7 +18,7 @@ use lists::turn;
 use printing::Printed;
 use record::{Answer, Head, Reply};
 use settings::{Refusal, Settings};
-use table::{open, refusal};
+use table::{open, refusal, start};
 use text::{Command, command_of, find};
 
 // The most bytes of input that are read as lines.
@@ -68,8 +68,8 @@ fn refused(line: u32, r: Refusal) -> Printed
     Printed::Refused(line, r.into())
 }
 
-// Line n is a start. It changes no settings.
-#[tactic(auto, using(settings::proofs::Refusals::refusal_positive), unfolding(crate::specs::Program::start_line, words::specs::Choice::pick))]
+// Line n is a start. Its Reply is tested by its number, since `start_line` is stated over it.
+#[tactic(auto, unfolding(crate::specs::Program::start_line, words::specs::Choice::pick))]
 fn start_line(
     n: u32,
     looks: bool,
@@ -83,15 +83,15 @@ fn start_line(
 ) -> Said
     ensures { line result.printed (state result.settings (areas nodes.now levels.now workers.new)) ≡ start_line n (start s.width s looks i row column (areas nodes.now levels.now workers.old)) }
 {
-    match table::begin(s, looks, i, row, column, nodes, levels, workers) {
-        Ok(()) => Said {
-            printed: Printed::Nothing,
-            settings: s,
-        },
-        Err(r) => Said {
-            printed: refused(n, r),
-            settings: s,
-        },
+    let r = start(s, looks, i, row, column, nodes, levels, workers);
+    let printed = if r.number == 0 {
+        Printed::Nothing
+    } else {
+        Printed::Refused(n, r.number)
+    };
+    Said {
+        printed,
+        settings: r.settings,
     }
 }
 
@@ -232,7 +232,8 @@ fn next_begin(p: Progress, input: &[u8]) -> Told
     requires { p.stage ≡ Stage.Begin }
     ensures { ((a : Areas) → Prints p input.now a result a) }
 {
-    if input.len() <= MAX_INPUT {
+    let is_short = input.len() <= MAX_INPUT;
+    if is_short {
         tell(Printed::Header, Stage::First, p)
     } else {
         tell(Printed::Header, Stage::TooLong, p)

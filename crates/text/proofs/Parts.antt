@@ -1,13 +1,14 @@
 -- The parts of a text are cut off one after the other, at the first byte b.
 -- Relies on words for the choice by a test.
-use mathlib.Core.Path.{◌≡◌, refl, ap, sym}
-use mathlib.Core.Bool.{Bool, true, false}
+use mathlib.Core.Path.{◌≡◌, refl, ap, sym, ◌∙◌}
+use mathlib.Core.Bool.{Bool, true, false, not}
 use mathlib.Core.List.{List, [], ◌∷◌}
 use Prim.Native.Nat.{ℕ, zero, suc, ◌<◌}
 use native.Mathlib.Omega.{arith}
+use borrow.Author.Tests.{eq-eqb, ne_eqb, eqb-true, eqb-false}
 use lib.Dec.{eqb}
 use lib.ListN.{length, take, drop}
-use Rattle.words.specs.Choice.{pick}
+use Rattle.words.specs.Choice.{pick, both}
 use Rattle.text.specs.Parts.{split, longer, part}
 use Rattle.text.specs.Cut.{up_to, past, has}
 
@@ -111,3 +112,28 @@ part_next b l n = go (has b l) refl
     go : (t : Bool) → has b l ≡ t → part (suc n) (split b l) ≡ part n (split b (past b l))
     go true e = simp (split-has b l e)
     go false e = simp (split-none b l e, past-none b l e) (sym (part_empty b n))
+
+-- how many parts there are: one, or one more than behind the first b
+pub count_one : (b : ℕ) (l : List ℕ) → eqb (length (split b l)) 1 ≡ not (has b l)
+count_one b l = go (has b l) refl
+  where
+    go : (t : Bool) → has b l ≡ t → eqb (length (split b l)) 1 ≡ not (has b l)
+    go true e =
+        let m = split-more b (past b l) in
+        rw (split-has b l e, e, m.2) (ne_eqb (suc (suc (length m.1))) 1 (λ z. omega arith))
+    go false e = simp (split-none b l e, e)
+
+next_same : (m n : ℕ) → eqb (suc m) (suc n) ≡ eqb m n
+next_same m n = go (eqb m n) refl
+  where
+    go : (t : Bool) → eqb m n ≡ t → eqb (suc m) (suc n) ≡ eqb m n
+    go true e = eq-eqb (suc m) (suc n) (ap suc (eqb-true m n e)) ∙ sym e
+    go false e = ne_eqb (suc m) (suc n) (λ (z : suc m ≡ suc n). eqb-false m n e (omega arith)) ∙ sym e
+
+pub count-more : (b : ℕ) (l : List ℕ) (n : ℕ) → eqb (length (split b l)) (suc (suc n)) ≡ both (has b l) (eqb (length (split b (past b l))) (suc n))
+unfolding both
+count-more b l n = go (has b l) refl
+  where
+    go : (t : Bool) → has b l ≡ t → eqb (length (split b l)) (suc (suc n)) ≡ both (has b l) (eqb (length (split b (past b l))) (suc n))
+    go true e = rw (split-has b l e, e) (next_same (length (split b (past b l))) (suc n))
+    go false e = rw (split-none b l e, e) (ne_eqb 1 (suc (suc n)) (λ z. omega arith))

@@ -3,18 +3,22 @@
 use mathlib.Core.Path.{◌≡◌, refl, ap, sym, ◌∙◌}
 use mathlib.Core.Bool.{Bool, true, false, not, ◌&&◌, cond}
 use mathlib.Core.List.{List, [], ◌∷◌, ◌++◌}
-use Prim.Native.Nat.{ℕ, zero, suc, ◌+◌, ◌-◌, ◌*◌, ◌^◌, ◌≤◌, ◌<◌}
+use Prim.Native.Nat.{ℕ, zero, suc, ◌+◌, ◌-◌, ◌*◌, ◌^◌, ◌≤◌, ◌<◌, min}
 use native.Mathlib.Nat.{pow-suc, pow-le-pow_right}
 use native.Mathlib.Numerals.{add-one}
 use native.Mathlib.Omega.{arith}
-use borrow.Author.Tests.{leb-true, ltb-true, ltb-false, lt-ltb, le-ltb}
+use borrow.Author.Tests.{leb-true, ltb-true, ltb-false, lt-ltb, le-ltb, eqb-true, eqb-false, eq-eqb}
 use lib.Dec.{eqb, ltb, leb}
 use lib.ListN.{length, get_or, set, take, drop}
 pub use lib.ListN.{length-drop, drop_of_length-le}
 use lib.Seq.{drop-cons, take-suc-set}
 pub use lib.Seq.{take_all}
-use Rattle.std.specs.List.{list_all, position, position_or_len, slice_split, onto_first}
+use Rattle.std.specs.List.{list_all, filter, position, position_or_len, slice_split, onto_first}
 use Rattle.std.specs.Prelude.{Some, None}
+use Rattle.std.proofs.lemmas.Bool.{ne_eqb}
+use Rattle.std.proofs.lemmas.List.{length-take}
+use Rattle.std.proofs.lemmas.List.Sums.{length-filter}
+use Rattle.std.proofs.lemmas.List.Splits.{length-slice_split}
 use Rattle.std.proofs.lemmas.Option.{none-some, same_Some}
 use Rattle.std.specs.Char.{is_ascii_digit}
 use Rattle.words.specs.Choice.{pick, both, every}
@@ -22,7 +26,7 @@ use Rattle.words.proofs.Choice.{both_left, both_right}
 use Rattle.text.specs.Parts.{comma, split, longer}
 use Rattle.text.specs.Commands.{is_digit, is_number, value_from, number_of, field, field_count, all_numbers, values}
 use Rattle.text.specs.Cut.{up_to, past, has}
-use Rattle.text.proofs.Parts.{past-drop, up_to-take, up_to-none, up_to_shorter, split-more, part-first, part_next}
+use Rattle.text.proofs.Parts.{past-drop, up_to-take, up_to-none, up_to_shorter, part-first, part_next}
 
 -- the library's words for the same cuts and tests
 both_no : (a : Bool) → both a false ≡ false
@@ -124,6 +128,12 @@ power_more k = rw (add-one, pow-suc) (omega arith)
 pub power_few : (k : ℕ) → k ≤ 4 → 10 ^ k ≤ 10000
 power_few k h = pow-le-pow_right {n = 10} (omega arith) h
 
+pub value_grows : (n k v : ℕ) → n < 10 ^ k → v ≤ 9 → n * 10 + v < 10 ^ (k + 1)
+value_grows n k v h j = rw (add-one, pow-suc) (omega arith)
+
+pub value_small : (n k : ℕ) → n < 10 ^ k → k ≤ 4 → n ≤ 9999
+value_small n k h j = let u : 10 ^ k ≤ 10 ^ 4 = pow-le-pow_right {n = 10} (omega arith) j in omega arith
+
 pub ruleset digit_steps = (digit_in, digits_few, value_more, value_end, power_more, power_few)
 
 -- field: the first, and one more
@@ -136,10 +146,22 @@ field_next l (suc k) h = let e : suc k - 1 ≡ k = omega arith in rw e (part_nex
 
 pub ruleset field_steps = (field_first, field_next)
 
--- numbers: one number more, one that is none, and all
-pub count_more : (l : List ℕ) {n : ℕ} → n ≡ field_count l → 1 ≤ n
-count_more l e = let m = split-more comma l in let f : field_count l ≡ suc (length m.1) = rw m.2 in omega arith
+-- has_fields: the commas up to comma n tell whether there are n fields
+same_test : (a b n : ℕ) → (a ≡ n → b ≡ n) → (b ≡ n → a ≡ n) → eqb a n ≡ eqb b n
+same_test a b n f g = go (eqb b n) refl
+  where
+    go : (t : Bool) → eqb b n ≡ t → eqb a n ≡ eqb b n
+    go true e = eq-eqb a n (g (eqb-true b n e)) ∙ sym e
+    go false e = ne_eqb a n (λ h. eqb-false b n e (f h)) ∙ sym e
 
+pub fields_told : (l : List ℕ) (n : ℕ) → eqb (length (take n (filter (λ x. eqb x comma) l)) + 1) n ≡ eqb (field_count l) n
+fields_told l n =
+    let k : field_count l ≡ length (filter (λ x. eqb x comma) l) + 1 =
+    ap length (sym (split_slices comma l)) ∙ length-slice_split (λ x. eqb x comma) l ∙ ap (λ m. m + 1) (sym (length-filter (λ x. eqb x comma) l)) in
+    let t : length (take n (filter (λ x. eqb x comma) l)) ≡ min n (length (filter (λ x. eqb x comma) l)) = length-take n (filter (λ x. eqb x comma) l) in
+    same_test _ _ n (λ h. omega arith) (λ h. omega arith)
+
+-- numbers: one number more, one that is none, and all
 pub take_more : (v : ℕ) (all : List ℕ) (k : ℕ) → k < length all → take (k + 1) (set all k v) ≡ take k all ++ (v ∷ [])
 take_more v all k h = rw add-one (take-suc-set all k v h)
 
@@ -161,4 +183,4 @@ not_all l k (suc n) e h = go (ltb k n) refl (not_all l k n e)
     go true t f = simp (f (ltb-true k n t))
     go false t f = let u : suc n ≡ k + 1 = (let g = ltb-false k n t in omega arith) in rw (u, e) (both_no _)
 
-pub ruleset numbers_steps = (count_more, take_more, take_all, values_more, all_more, not_all)
+pub ruleset numbers_steps = (take_more, take_all, values_more, all_more, not_all)

@@ -3,7 +3,7 @@
 
 #![tactic(auto)]
 
-ghost use Rattle.std.specs.Prelude.{◌≡◌, true, not, eqb, length, get_or, position};
+ghost use Rattle.std.specs.Prelude.{◌≡◌, true, not, ◌≤◌, eqb, length, get_or, position};
 ghost use Rattle.words.specs.Choice.{pick, every};
 ghost use Rattle.text.specs.Commands.{is_digit, is_number, number_of, number, field, field_count, number_at, numbers, sizes, command};
 ghost use Rattle.text.specs.Cut.{up_to, past};
@@ -42,7 +42,7 @@ pub fn past(s: &[u8], b: u8) -> &[u8]
 {
     match find(s, b) {
         Some(n) => &s[n + 1..],
-        None => &[],
+        None => &s[s.len()..],
     }
 }
 
@@ -76,7 +76,8 @@ fn is_number(s: &[u8]) -> bool
 #[tactic(auto, using(crate::proofs::Ways::digit_steps))]
 fn number_of(s: &[u8]) -> u32
     requires { is_number s.now ≡ true }
-    ensures { result ≡ number_of s.now }
+    ensures value { result ≡ number_of s.now }
+    ensures upper_bound { result ≤ 9999 }
 {
     let mut n = 0;
     for b in s {
@@ -109,11 +110,12 @@ fn field(line: &[u8], k: usize) -> &[u8]
     }
 }
 
-// How many fields the line has.
-fn field_count(line: &[u8]) -> usize
-    ensures { result ≡ field_count line.now }
+// Whether the line has n fields, thus n - 1 commas. It is read to its comma n at most.
+fn has_fields(line: &[u8], n: usize) -> bool
+    requires { n ≤ 5 }
+    ensures { result ≡ eqb (field_count line.now) n }
 {
-    line.split(|b| *b == b',').count()
+    line.iter().filter(|b| **b == b',').take(n).count() + 1 == n
 }
 
 // The number that field k of the line is, if it is one.
@@ -126,9 +128,10 @@ fn number_at(line: &[u8], k: usize) -> Option<u32>
 // The numbers behind the first field, if N fields stand there and each is a number.
 #[tactic(auto, using(crate::proofs::Ways::numbers_steps), unfolding(crate::specs::Commands::all_numbers, crate::specs::Commands::values, words::specs::Choice::pick, words::specs::Choice::both))]
 fn numbers<const N: usize>(line: &[u8]) -> Option<[u32; N]>
+    requires { N ≤ 4 }
     ensures { result ≡ numbers N line.now }
 {
-    if field_count(line) - 1 != N {
+    if !has_fields(line, N + 1) {
         return None;
     }
     let mut all = [0; N];

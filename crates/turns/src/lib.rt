@@ -15,7 +15,7 @@ ghost use Rattle.steps.specs.Cut.{begun};
 ghost use Rattle.turns.specs.Cut.{tried_of, finished, left_by, done_of, by_held, by_remembered, came_to, did, did_of, did_as};
 
 use mover::Mover;
-use record::{Answer, Exchange, Head, Kind, Move, inside, move_fits, search_fits, viewing};
+use record::{Answer, Exchange, Head, Kind, Move, inside, move_fits, search_fits};
 use settings::{Refusal, Settings};
 use worker::{Turned, Worker};
 
@@ -276,7 +276,7 @@ pub fn view_here(s: Settings, i: u32, nodes: &[u32], levels: &[u32], workers: &m
     ensures counts { IfOk result (λ d. (d.nodes_taken ≡ s.nodes_taken) × (d.levels_taken ≡ s.levels_taken)) }
 {
     let h = Head::load(workers, i);
-    if viewing(h.kind) {
+    if h.kind.viewing() {
         view_fitting(s, i, h, nodes, levels, workers)
     } else {
         Err(Refusal::Memory)

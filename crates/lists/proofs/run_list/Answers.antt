@@ -45,7 +45,8 @@ loop-t-preserved c =
     let t = stand 0 c.loop-t.t in
     let u = stand 0 c.in-Ok.next in
     let b = areas c.entry.new.nodes c.entry.new.levels c.entry.new.workers in
-    let e : iter_rest c.loop-t.after ≡ c.from-i.result ∷ iter_rest c.next.new.self = c.in-Some.ensures.steps ∙ ap (λ (n : ℕ). n ∷ iter_rest c.next.new.self) (sym c.from-i.ensures) in (
+    let q : c.in-Some.worker.now ≡ c.from-i.result = search rules in
+    let e : iter_rest c.loop-t.after ≡ c.from-i.result ∷ iter_rest c.next.new.self = c.in-Some.ensures.steps ∙ ap (λ (n : ℕ). n ∷ iter_rest c.next.new.self) q in (
       search rules,
       search rules,
       search rules,

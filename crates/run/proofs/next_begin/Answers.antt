@@ -1,11 +1,11 @@
 -- `run::next_begin` meets its contract.
 -- Relies on the ways through a stage.
-use borrow.Author.Rules.{rules}
+use Rattle.std.proofs.Common.{arith}
 use Rattle.run.proofs.Stages.{begin_short, begin_long}
 use Rattle.run.proofs.next_begin.Goals as goal
 
-pub returns-then-input-le-MAX_INPUT : goal.returns-then-input-le-MAX_INPUT
-returns-then-input-le-MAX_INPUT c = search (rules, begin_short)
+pub returns-then-is_short : goal.returns-then-is_short
+returns-then-is_short c a = begin_short _ _ a c.tell.ensures c.requires (omega arith)
 
-pub returns-else-input-le-MAX_INPUT : goal.returns-else-input-le-MAX_INPUT
-returns-else-input-le-MAX_INPUT c = search (rules, begin_long)
+pub returns-else-is_short : goal.returns-else-is_short
+returns-else-is_short c a = begin_long _ _ a c.tell-else-is_short.ensures c.requires (omega arith)
